@@ -1,0 +1,16 @@
+//! What every crate above cites: want of memory, copies that may want it, and lists.
+//!
+//! - [`Memory`] is the one error of a call that can fail for nothing else.
+//! - [`Duplicate`] is a copy that may fail for want of memory.
+//! - [`Listed`] is a list of values, which contracts see as a list.
+//!
+//! Nothing here knows of registries. The texts of one stand in `hb_text`.
+#![tactic(auto)]
+
+mod copies;
+mod lists;
+mod memory;
+
+pub use copies::Duplicate;
+pub use lists::Listed;
+pub use memory::Memory;

@@ -1,0 +1,21 @@
+use Rattle.std.proofs.Common.{true, sym, subst, ◌∙◌, arith}
+use Rattle.hb_text.specs.Names.{IsName}
+use Rattle.hb_text.proofs.NameScan.{name-read, read-name}
+use Rattle.hb_text.proofs.names.Name.read.Goals as goal
+
+pub returns-then-not-ends_in_word-clause-invalid : goal.returns-then-not-ends_in_word-clause-invalid
+returns-then-not-ends_in_word-clause-invalid c = λ e n. let read = read-name true c.args.text.now n.matches in let said = c.ends_in_word.ensures in let test = c.if-not-ends_in_word.true in cc
+
+pub returns-in-Ok-clause-valid : goal.returns-in-Ok-clause-valid
+returns-in-Ok-clause-valid c = record {
+  short = omega (arith, c.if-text-gt255.false);
+  matches = name-read true c.args.text.now (let said = c.ends_in_word.ensures in let test = c.if-not-ends_in_word.false in cc);
+  parts = let said = c.has_slash.ensures in let test = c.if-not-has_slash.false in cc;
+}
+
+pub invariant_of-result : goal.invariant_of-result
+invariant_of-result c = subst IsName (sym c.in-Ok.ensures) (record {
+  short = omega (arith, c.if-text-gt255.false);
+  matches = name-read true c.args.text.now (let said = c.ends_in_word.ensures in let test = c.if-not-ends_in_word.false in cc);
+  parts = let said = c.has_slash.ensures in let test = c.if-not-has_slash.false in cc;
+})

@@ -1,0 +1,6 @@
+pub mod Digests
+pub mod Grammar
+pub mod Names
+pub mod NameScan
+pub mod Numbers
+pub mod Tags
