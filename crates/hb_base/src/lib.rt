@@ -3,6 +3,7 @@
 //! - [`Memory`] is the one error of a call that can fail for nothing else.
 //! - [`Duplicate`] is a copy that may fail for want of memory.
 //! - [`Listed`] is a list of values, which contracts see as a list.
+//! - [`place`], [`put`], [`remove`] and [`find`] keep a table: rows in the order of their keys, each key once.
 //!
 //! Nothing here knows of registries. The texts of one stand in `hb_text`.
 #![tactic(auto)]
@@ -10,7 +11,9 @@
 mod copies;
 mod lists;
 mod memory;
+mod tables;
 
 pub use copies::Duplicate;
 pub use lists::Listed;
 pub use memory::Memory;
+pub use tables::{Ordered, Seeks, find, place, put, remove};

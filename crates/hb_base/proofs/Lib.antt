@@ -1,0 +1,3 @@
+pub mod MappedTables
+pub mod Places
+pub mod TableLaws
