@@ -1,0 +1,4 @@
+pub mod Causes
+pub mod Scripts
+pub mod Sources
+pub mod Streams
