@@ -1,5 +1,5 @@
 -- Places of rows by key, one row further on.
-use Rattle.std.proofs.Common.{◌≡◌, ℕ, ◌+◌, ◌<◌, ◌≤◌, List, [], ◌∷◌, ◌++◌, length, get_or, set, take, drop, Result, Ok, Err, refl, sym, ap, ◌∙◌, arith, add-one}
+use Rattle.std.proofs.Common.{◌≡◌, ℕ, ◌+◌, ◌<◌, ◌≤◌, List, [], ◌∷◌, length, get_or, set, drop, Result, Ok, Err, refl, ap, arith, add-one}
 use Rattle.std.specs.List.{insert}
 use Rattle.std.specs.declared.cmp.Ordering.{Ordering}
 use Rattle.std.specs.declared.cmp.Ordering.TheVariants.{Less, Equal, Greater}
@@ -11,18 +11,22 @@ abbrev pub shifted : ℕ → Result ℕ ℕ → Result ℕ ℕ
 shifted i (Ok k) = Ok (i + k)
 shifted i (Err k) = Err (i + k)
 
+-- no further on is the same place
 pub shifted-zero : (r : Result ℕ ℕ) → shifted 0 r ≡ r
 shifted-zero (Ok k) = ap Ok (omega arith)
 shifted-zero (Err k) = ap Err (omega arith)
 
+-- one row more, and then i, is i + 1
 pub shifted-one_on : (i : ℕ) (r : Result ℕ ℕ) → shifted i (one_on r) ≡ shifted (i + 1) r
 shifted-one_on i (Ok k) = ap Ok (omega arith)
 shifted-one_on i (Err k) = ap Err (omega arith)
 
 module _ {Row : Type 0} (at : Row → Ordering) (rows : List Row) (i : ℕ) (d : Row) (within : i < length rows) where
+  -- the place among the rows from i on, by how the key stands to row i
   pub place_here : place_of at (drop i rows) ≡ by_place (at (get_or rows i d)) (place_of at (drop (i + 1) rows))
   place_here = at_drop_more (place_of at) rows i d within
 
+-- behind the last row every key would go first
 pub place_none : {Row : Type 0} (at : Row → Ordering) (rows : List Row) (i : ℕ) → length rows ≤ i → place_of at (drop i rows) ≡ Err 0
 place_none at rows i h = at_drop_all (place_of at) rows i h
 

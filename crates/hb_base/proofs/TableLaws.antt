@@ -7,7 +7,7 @@ use Rattle.std.specs.declared.cmp.Ordering.TheVariants.{Less, Equal, Greater}
 use Rattle.std.specs.Ordering.{is_eq, ordering_reverse}
 use Rattle.std.specs.Cmp.{IsTotalOrder}
 use Rattle.std.proofs.lemmas.Cmp.{tied_itself, alike_right, eq_by_cmp_equiv}
-use Rattle.hb_base.specs.Tables.{found, placed, row_at, with_row, without_key, changed_at, Rises}
+use Rattle.hb_base.specs.Tables.{placed, row_at, with_row, without_key, changed_at, Rises}
 
 -- what an answer of a comparison is
 pub equal_from : (r : Ordering) → is_eq r ≡ true → r ≡ Equal
@@ -15,15 +15,18 @@ equal_from Less e = cc
 equal_from Equal e = refl
 equal_from Greater e = cc
 
+-- a choice between the same is that
 same_cond : {A : Type 0} (b : Bool) (x : A) → x ≡ cond b x x
 same_cond true x = refl
 same_cond false x = refl
 
+-- a choice made a second time changes nothing
 twice : {A : Type 0} (b : Bool) (x y z : A) → cond b x z ≡ cond b x (cond b y z)
 twice true x y z = refl
 twice false x y z = refl
 
 module _ {Row K : Type 0} {compare : K → K → Ordering} (o : IsTotalOrder compare) (key : Row → K) where
+  -- keys that tie find the same
   pub row_at-tied : (q k : K) → compare q k ≡ Equal → (rows : List Row) → row_at compare key q rows ≡ row_at compare key k rows
   row_at-tied q k e [] = refl
   row_at-tied q k e (row ∷ rows) = λ i. cond (is_eq (o.congr q k (key row) e i)) (Some row) (row_at-tied q k e rows i)
@@ -70,10 +73,12 @@ module _ {Row K : Type 0} {compare : K → K → Ordering} (o : IsTotalOrder com
   keyed true change keeps row = keeps row
   keyed false change keeps row = refl
 
+  -- the choice of a row is made beside its `Some`
   some_cond : (b : Bool) (x y : Row) → Some (cond b x y) ≡ cond b (Some x) (Some y)
   some_cond true x y = refl
   some_cond false x y = refl
 
+  -- a key that ties with a row's is tested as that is
   same_test : (q k x : K) → compare q x ≡ Equal → is_eq (compare k x) ≡ is_eq (compare q k)
   same_test q k x e = (eq_by_cmp_equiv o).symm k x ∙ sym (ap is_eq (o.congr q x k e))
 
@@ -93,6 +98,7 @@ module _ {Row K : Type 0} {compare : K → K → Ordering} (o : IsTotalOrder com
   abbrev pub Below : Row → List Row → Type 0
   Below row rows = AllByRecursion (λ next. compare (key row) (key next) ≡ Less) rows
 
+  -- a row above the first stays above it when it is set among the others
   Below-with : (first row : Row) (rows : List Row) → compare (key first) (key row) ≡ Less → Below first rows → Below first (with_row compare key row rows)
   Below-with first row [] e h = (e, tt)
   Below-with first row (x ∷ rest) e h =
@@ -107,10 +113,12 @@ module _ {Row K : Type 0} {compare : K → K → Ordering} (o : IsTotalOrder com
   Below-trans row first [] e h = tt
   Below-trans row first (x ∷ rest) e h = (o.trans (key row) (key first) (key x) e h.0, Below-trans row first rest e h.1)
 
+  -- what is above a row is above a row that ties with it
   Below-tied : (row first : Row) (rows : List Row) → compare (key row) (key first) ≡ Equal → Below first rows → Below row rows
   Below-tied row first [] e h = tt
   Below-tied row first (x ∷ rest) e h = (o.congr (key row) (key first) (key x) e ∙ h.0, Below-tied row first rest e h.1)
 
+  -- the keys still rise when a row is set
   pub Rises-with : (row : Row) (rows : List Row) → Rises compare key rows → Rises compare key (with_row compare key row rows)
   Rises-with row [] h = (tt, tt)
   Rises-with row (first ∷ rest) h =
@@ -120,25 +128,31 @@ module _ {Row K : Type 0} {compare : K → K → Ordering} (o : IsTotalOrder com
         | Greater ↦ λ e. (Below-with first row rest (o.antisymm (key first) (key row) ∙ ap ordering_reverse e) h.0, Rises-with row rest h.1)
       ] refl
 
+  -- what is above a row is so where some is left out
   Below-filter : (first : Row) (p : Row → Bool) (rows : List Row) → Below first rows → Below first (filter p rows)
   Below-filter first p [] h = tt
   Below-filter first p (x ∷ rest) h = elim (p x) as (λ b. Below first (cond b (x ∷ filter p rest) (filter p rest))) [ true ↦ (h.0, Below-filter first p rest h.1) | false ↦ Below-filter first p rest h.1 ]
 
+  -- the keys still rise where rows are left out
   pub Rises-filter : (p : Row → Bool) (rows : List Row) → Rises compare key rows → Rises compare key (filter p rows)
   Rises-filter p [] h = tt
   Rises-filter p (x ∷ rest) h = elim (p x) as (λ b. Rises compare key (cond b (x ∷ filter p rest) (filter p rest))) [ true ↦ (Below-filter x p rest h.0, Rises-filter p rest h.1) | false ↦ Rises-filter p rest h.1 ]
 
+  -- the keys still rise when a key is dropped
   pub Rises-without : (k : K) (rows : List Row) → Rises compare key rows → Rises compare key (without_key compare key k rows)
   Rises-without k = Rises-filter _
 
+  -- rows that keep their keys stay above
   Below-map : (first : Row) (f : Row → Row) → ((row : Row) → key (f row) ≡ key row) → (rows : List Row) → Below first rows → Below (f first) (map f rows)
   Below-map first f keeps [] h = tt
   Below-map first f keeps (x ∷ rest) h = ((λ i. compare (keeps first i) (keeps x i)) ∙ h.0, Below-map first f keeps rest h.1)
 
+  -- the keys still rise when rows change under their keys
   pub Rises-map : (f : Row → Row) → ((row : Row) → key (f row) ≡ key row) → (rows : List Row) → Rises compare key rows → Rises compare key (map f rows)
   Rises-map f keeps [] h = tt
   Rises-map f keeps (x ∷ rest) h = (Below-map x f keeps rest h.0, Rises-map f keeps rest h.1)
 
+  -- the keys still rise when the row of one key changes under it
   pub Rises-changed : (k : K) (change : Row → Row) → ((row : Row) → key (change row) ≡ key row) → (rows : List Row) → Rises compare key rows → Rises compare key (changed_at compare key k change rows)
   Rises-changed k change keeps rows = Rises-map _ (λ row. keyed (is_eq (compare k (key row))) change keeps row) rows
 
@@ -148,6 +162,7 @@ module _ {Row K : Type 0} {compare : K → K → Ordering} (o : IsTotalOrder com
   row_at-below first [] h = refl
   row_at-below first (x ∷ rest) h = ap (λ r. cond (is_eq r) (Some x) (row_at compare key (key first) rest)) h.0 ∙ row_at-below first rest h.1
 
+  -- the first row is found by its key
   found_first : (row : Row) (rows : List Row) → row_at compare key (key row) (row ∷ rows) ≡ Some row
   found_first row rows = ap (λ r. cond (is_eq r) (Some row) (row_at compare key (key row) rows)) (tied_itself o (key row))
 
@@ -159,6 +174,7 @@ module _ {Row K : Type 0} {compare : K → K → Ordering} (o : IsTotalOrder com
         | false ↦ λ e. refl
       ] refl
 
+  -- tables in which the same is found are the same
   pub same_rows : (xs ys : List Row) → Rises compare key xs → Rises compare key ys → ((q : K) → row_at compare key q xs ≡ row_at compare key q ys) → xs ≡ ys
   same_rows [] [] s t h = refl
   same_rows [] (y ∷ ys) s t h = let e = h (key y) ∙ found_first y ys in cc
@@ -236,6 +252,7 @@ module _ {Row K : Type 0} {compare : K → K → Ordering} (o : IsTotalOrder com
         ] f
       ] refl h
 
+  -- a change that is the same made twice, made a second time after a choice
   again : (b : Bool) (change : Row → Row) → ((row : Row) → change (change row) ≡ change row) → (x : Option Row) → option_map change (cond b (option_map change x) x) ≡ option_map change x
   again true change twice None = refl
   again true change twice (Some row) = ap Some (twice row)
@@ -246,9 +263,11 @@ module _ {Row K : Type 0} {compare : K → K → Ordering} (o : IsTotalOrder com
   changed-again q k change keeps twice rows = ap (option_map change) (row_at-changed q k change keeps rows) ∙ again (is_eq (compare q k)) change twice (row_at compare key q rows)
 
   -- ---- several keys dropped
+  -- some of the rows has this key
   abbrev pub named : K → List Row → Bool
   named q rows = list_any (λ row. is_eq (compare q (key row))) rows
 
+  -- what is found after the keys of several rows are dropped
   row_at-without_all : (q : K) (gone rows : List Row) → row_at compare key q (fold (λ rows row. without_key compare key (key row) rows) rows gone) ≡ cond (named q gone) None (row_at compare key q rows)
   row_at-without_all q [] rows = refl
   row_at-without_all q (row ∷ gone) rows =
@@ -261,11 +280,13 @@ module _ {Row K : Type 0} {compare : K → K → Ordering} (o : IsTotalOrder com
       either_none true false x = refl
       either_none false b x = refl
 
+  -- the keys still rise after several are dropped
   Rises-without_all : (gone rows : List Row) → Rises compare key rows → Rises compare key (fold (λ rows row. without_key compare key (key row) rows) rows gone)
   Rises-without_all [] rows h = h
   Rises-without_all (row ∷ gone) rows h = Rises-without_all gone (without_key compare key (key row) rows) (Rises-without (key row) rows h)
 
   -- in a table, the rows that pass are told by their keys
+  -- a key that isn't found is no row's, whatever rows are picked
   none_named : (q : K) (p : Row → Bool) (rows : List Row) → row_at compare key q rows ≡ None → named q (filter p rows) ≡ false
   none_named q p [] e = refl
   none_named q p (row ∷ rows) e =
@@ -274,6 +295,7 @@ module _ {Row K : Type 0} {compare : K → K → Ordering} (o : IsTotalOrder com
         | false ↦ λ t f. elim (p row) as (λ c. named q (cond c (row ∷ filter p rows) (filter p rows)) ≡ false) [ true ↦ ap (λ b. b || named q (filter p rows)) t ∙ none_named q p rows f | false ↦ none_named q p rows f ]
       ] refl e
 
+  -- what is found among the rows that don't pass
   kept_found : (q : K) (p : Row → Bool) (rows : List Row) → Rises compare key rows → row_at compare key q (filter (λ row. not (p row)) rows) ≡ cond (named q (filter p rows)) None (row_at compare key q rows)
   kept_found q p [] h = refl
   kept_found q p (row ∷ rows) h =
@@ -298,6 +320,7 @@ module _ {Row K : Type 0} {compare : K → K → Ordering} (o : IsTotalOrder com
   without_passing p rows h = same_rows _ _ (Rises-without_all (filter p rows) rows h) (Rises-filter (λ row. not (p row)) rows h) (λ q. row_at-without_all q (filter p rows) rows ∙ sym (kept_found q p rows h))
 
   -- ---- sums
+  -- a sum over the rows grows by a row of a new key
   pub sum-with_new : (f : Row → ℕ) (row : Row) (rows : List Row) → row_at compare key (key row) rows ≡ None → sum_by f (with_row compare key row rows) ≡ f row + sum_by f rows
   sum-with_new f row [] e = sum_by-cons f row []
   sum-with_new f row (x ∷ rest) e =
@@ -316,6 +339,7 @@ module _ {Row K : Type 0} {compare : K → K → Ordering} (o : IsTotalOrder com
         | false ↦ λ g. ap (λ later. x ∷ later) (without-absent k rest g)
       ] e
 
+  -- a sum over the rows falls by the row of a key that is dropped
   pub sum-without : (f : Row → ℕ) (k : K) (row : Row) (rows : List Row) → Rises compare key rows → row_at compare key k rows ≡ Some row → sum_by f (without_key compare key k rows) + f row ≡ sum_by f rows
   sum-without f k row [] h e = cc
   sum-without f k row (x ∷ rest) h e =
@@ -327,6 +351,7 @@ module _ {Row K : Type 0} {compare : K → K → Ordering} (o : IsTotalOrder com
         | false ↦ λ t g. omega (arith, sum_by-cons f x (without_key compare key k rest), sum_by-cons f x rest, sum-without f k row rest h.1 g)
       ] refl e
 
+  -- a change that keeps the summand keeps the sum
   pub sum-changed : (f : Row → ℕ) (k : K) (change : Row → Row) → ((row : Row) → f (change row) ≡ f row) → (rows : List Row) → sum_by f (changed_at compare key k change rows) ≡ sum_by f rows
   sum-changed f k change same [] = refl
   sum-changed f k change same (x ∷ rest) =
@@ -334,6 +359,7 @@ module _ {Row K : Type 0} {compare : K → K → Ordering} (o : IsTotalOrder com
       let here : f next ≡ f x = elim (is_eq (compare k (key x))) as (λ b. f (cond b (change x) x) ≡ f x) [ true ↦ same x | false ↦ refl ] in
       omega (arith, here, sum_by-cons f next (changed_at compare key k change rest), sum_by-cons f x rest, sum-changed f k change same rest)
 
+-- a sum over the rows that pass counts the others as 0
 pub sum-filter : {A : Type 0} (f : A → ℕ) (p : A → Bool) (xs : List A) → sum_by f (filter p xs) ≡ sum_by (λ x. cond (p x) (f x) 0) xs
 sum-filter f p [] = refl
 sum-filter f p (x ∷ xs) =

@@ -1,3 +1,4 @@
 pub mod DigestTexts
 pub mod Digits
+pub mod KeyOrders
 pub mod NameScan

@@ -3,14 +3,16 @@ use Rattle.std.specs.Prelude.{◌≡◌, ◌≢◌, ◌<◌, ◌+◌, ◌-◌, �
 use Rattle.std.specs.List.{list_all}
 use Rattle.hb_text.specs.Grammar.{is_within}
 
+-- [0-9]
 abbrev pub is_digit : ℕ → Bool
 is_digit b = is_within 48 57 b
 
--- the number that decimal digits stand for
+-- the number that decimal digits stand for, the first of which weighs most
 abbrev pub value_of : List ℕ → ℕ
 value_of = fold (λ value b. 10 * value + (b - 48)) 0
 
--- decimal digits of a number below 2^64, without a needless leading zero
+-- The text is the number in decimal digits, without a needless leading zero, and the number is below
+-- 2^64.
 pub record IsNumber (s : List ℕ) (n : ℕ) : Type 0 where
   pub some_digit : 0 < length s
   pub digits : IsTrue (list_all is_digit s)

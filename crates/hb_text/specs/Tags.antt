@@ -12,6 +12,7 @@ is_tag_start b = is_within 97 122 b || is_within 65 90 b || is_within 48 57 b ||
 abbrev pub is_in_tag : ℕ → Bool
 is_in_tag b = is_tag_start b || nat_eq 46 b || nat_eq 45 b
 
+-- a first byte, and at most 127 more
 abbrev pub IsTag : List ℕ → Type 0
 IsTag [] = ⊥
 IsTag (first ∷ rest) = IsTrue (is_tag_start first) × IsTrue (list_all is_in_tag rest) × (length rest ≤ 127)

@@ -9,20 +9,24 @@
 //! - [`Text`]: bytes of any sort.
 //! - [`read_number`]: decimal digits.
 //!
-//! Texts are ordered by their bytes and digests by theirs.
+//! Texts are ordered by their bytes and digests by theirs: [`keys_are_in_total_order`] has the laws.
 #![tactic(auto)]
 
 mod digests;
 mod names;
 mod numbers;
+mod orders;
 mod references;
 mod tags;
+#[cfg(test)]
+mod tests;
 mod texts;
 
 pub use digests::{Digest, Hash};
 pub use hb_base::{Duplicate, Memory};
-pub use names::{Name, NameFault, ProjectName};
+pub use names::{LONGEST_NAME, Name, NameFault, ProjectName};
 pub use numbers::read_number;
+pub use orders::keys_are_in_total_order;
 pub use references::Reference;
-pub use tags::Tag;
+pub use tags::{LONGEST_TAG, Tag};
 pub use texts::Text;

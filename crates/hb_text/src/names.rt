@@ -12,6 +12,9 @@ use std::error::Error;
 use std::fmt;
 use std::marker::Model;
 
+/// The most bytes that the name of a repository or of a project has.
+pub const LONGEST_NAME: usize = 255;
+
 /// Why a name or a tag isn't read.
 #[derive(Clone, Copy, Debug, PartialEq, Eq, Hash)]
 pub enum NameFault {
@@ -182,13 +185,14 @@ fn first_slash(text: &[u8]) -> usize
 }
 
 impl ProjectName {
-    /// Reads one component of a repository's name, of at most 255 bytes. `Invalid` for any other text.
+    /// Reads one component of a repository's name, of at most [`LONGEST_NAME`] bytes. `Invalid` for any
+    /// other text.
     pub fn read(alloc: Global, text: &[u8]) -> Result<ProjectName, NameFault>
         ensures ok { IfOk result (λ name. name ≡ text.now) }
         ensures valid { OnOk result (IsProjectName text.now) }
         ensures invalid { result ≡ Err NameFault.Invalid → ¬ IsProjectName text.now }
     {
-        if text.len() > 255 {
+        if text.len() > LONGEST_NAME {
             return Err(NameFault::Invalid);
         }
         if !ends_in_word(false, text) {
@@ -211,13 +215,14 @@ impl ProjectName {
 
 impl Name {
     /// Reads a repository's name (OCI Distribution Specification 1.1, "Pulling manifests", the grammar
-    /// of `<name>`) of two components or more and at most 255 bytes. `Invalid` for any other text.
+    /// of `<name>`) of two components or more and at most [`LONGEST_NAME`]
+    /// bytes. `Invalid` for any other text.
     pub fn read(alloc: Global, text: &[u8]) -> Result<Name, NameFault>
         ensures ok { IfOk result (λ name. name ≡ text.now) }
         ensures valid { OnOk result (IsName text.now) }
         ensures invalid { result ≡ Err NameFault.Invalid → ¬ IsName text.now }
     {
-        if text.len() > 255 {
+        if text.len() > LONGEST_NAME {
             return Err(NameFault::Invalid);
         }
         if !ends_in_word(true, text) {

@@ -8,6 +8,9 @@ use hb_base::{Duplicate, Memory};
 use std::alloc::Global;
 use std::marker::Model;
 
+/// The most bytes that a tag has.
+pub const LONGEST_TAG: usize = 128;
+
 /// A tag of a repository. Contracts see its bytes.
 #[derive(Debug, PartialEq, Eq, PartialOrd, Ord, Drop)]
 pub struct Tag {
@@ -57,8 +60,8 @@ fn are_in_tag(text: &[u8]) -> bool
 }
 
 impl Tag {
-    /// Reads a tag: at most 128 bytes of `[a-zA-Z0-9_][a-zA-Z0-9._-]*` (OCI Distribution Specification
-    /// 1.1, "Pulling manifests"). `Invalid` for any other text.
+    /// Reads a tag: at most [`LONGEST_TAG`] bytes of `[a-zA-Z0-9_][a-zA-Z0-9._-]*` (OCI Distribution
+    /// Specification 1.1, "Pulling manifests"). `Invalid` for any other text.
     pub fn read(alloc: Global, text: &[u8]) -> Result<Tag, NameFault>
         ensures ok { IfOk result (λ tag. tag ≡ text.now) }
         ensures valid { OnOk result (IsTag text.now) }
@@ -67,7 +70,7 @@ impl Tag {
         let [first, rest @ ..] = text else {
             return Err(NameFault::Invalid);
         };
-        if rest.len() > 127 {
+        if text.len() > LONGEST_TAG {
             return Err(NameFault::Invalid);
         }
         if !is_tag_start(*first) {

@@ -1,4 +1,4 @@
-use Rattle.std.proofs.Common.{sym, ◌∙◌, ap}
+use Rattle.std.proofs.Common.{sym, ◌∙◌}
 use Rattle.hb_base.proofs.Places.{with_row-set, with_row-insert}
 use Rattle.hb_base.proofs.tables.put.Goals as goal
 

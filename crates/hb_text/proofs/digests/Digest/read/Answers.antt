@@ -1,4 +1,4 @@
-use Rattle.std.proofs.Common.{◌≡◌, ◌∙◌, ap, sym, length, take, drop, ◌-◌, Ok, arith, MatchResult}
+use Rattle.std.proofs.Common.{◌∙◌, ap, sym, length, take, drop, ◌-◌, arith}
 use Rattle.hex.specs.Hex.{decode_sized}
 use Rattle.hb_text.proofs.DigestTexts.{length-text, decoded, when-decoded, no-error, not-told-apart}
 use Rattle.hb_text.specs.Digests.{digest_text}

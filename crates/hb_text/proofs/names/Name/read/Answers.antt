@@ -1,4 +1,4 @@
-use Rattle.std.proofs.Common.{true, sym, subst, ◌∙◌, arith}
+use Rattle.std.proofs.Common.{true, sym, subst, arith}
 use Rattle.hb_text.specs.Names.{IsName}
 use Rattle.hb_text.proofs.NameScan.{name-read, read-name}
 use Rattle.hb_text.proofs.names.Name.read.Goals as goal
@@ -8,14 +8,14 @@ returns-then-not-ends_in_word-clause-invalid c = λ e n. let read = read-name tr
 
 pub returns-in-Ok-clause-valid : goal.returns-in-Ok-clause-valid
 returns-in-Ok-clause-valid c = record {
-  short = omega (arith, c.if-text-gt255.false);
+  short = omega (arith, c.if-text-gt-LONGEST_NAME.false);
   matches = name-read true c.args.text.now (let said = c.ends_in_word.ensures in let test = c.if-not-ends_in_word.false in cc);
   parts = let said = c.has_slash.ensures in let test = c.if-not-has_slash.false in cc;
 }
 
 pub invariant_of-result : goal.invariant_of-result
 invariant_of-result c = subst IsName (sym c.in-Ok.ensures) (record {
-  short = omega (arith, c.if-text-gt255.false);
+  short = omega (arith, c.if-text-gt-LONGEST_NAME.false);
   matches = name-read true c.args.text.now (let said = c.ends_in_word.ensures in let test = c.if-not-ends_in_word.false in cc);
   parts = let said = c.has_slash.ensures in let test = c.if-not-has_slash.false in cc;
 })
