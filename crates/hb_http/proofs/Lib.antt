@@ -1,0 +1,9 @@
+pub mod FramingLaws
+pub mod HeadLaws
+pub mod HeaderLimit
+pub mod HeaderValues
+pub mod LineCounts
+pub mod RequestLaws
+pub mod Said
+pub mod Targets
+pub mod Windows

@@ -1,0 +1,56 @@
+//! Laws of the definitions, each the contract of a function that does nothing.
+ghost use Rattle.std.specs.Prelude.{◌≡◌, ◌≤◌, ◌++◌, ℕ, List, length};
+ghost use Rattle.httparse.specs.Grammar.{RequestHead};
+ghost use Rattle.hb_http.specs.Framing.{HasLength, IsChunked};
+ghost use Rattle.hb_http.specs.Heads.{IsHead, HasNoHead, IsMalformed, NeverHasHead, HasTooManyHeaders, IsHeadTooLong, window};
+ghost use Rattle.hb_http.specs.declared.TheConstants.{MAX_HEAD};
+ghost use Rattle.hb_http.specs.Requests.{Request, HasNoRequest, RequestsOf};
+
+/// A way to say where requests end, and which of them close the connection.
+pub trait Reading {
+    /// A request of this head ends with these bytes behind it.
+    ghost ends: { RequestHead → List ℕ → Type 0 };
+
+    /// A request of this head and these bytes behind it closes the connection.
+    ghost closes: { RequestHead → List ℕ → Type 0 };
+}
+
+/// No whole request is the front of another, so bytes are requests in one way.
+pub fn one_reading<R: Reading>()
+    ensures { (bytes : List ℕ) (requests others : List Request) (rest other : List ℕ)
+        → RequestsOf R.ends R.closes bytes requests rest → RequestsOf R.ends R.closes bytes others other
+        → (requests ≡ others) × (rest ≡ other) }
+{}
+
+/// Headers say in one way at most where the body ends.
+pub fn one_framing()
+    ensures length { (headers : List (List ℕ × List ℕ)) (n m : ℕ) → HasLength headers n → HasLength headers m → n ≡ m }
+    ensures chunked { (headers : List (List ℕ × List ℕ)) (n : ℕ) → HasLength headers n → ¬ (IsChunked headers) }
+{}
+
+/// A head within the limits excludes each refusal of one.
+pub fn one_front()
+    ensures malformed { (bytes : List ℕ) (h : RequestHead) (rest : List ℕ) → IsHead bytes h rest → ¬ (NeverHasHead bytes) }
+    ensures many { (bytes : List ℕ) (h : RequestHead) (rest : List ℕ) → IsHead bytes h rest → ¬ (HasTooManyHeaders bytes) }
+    ensures long { (bytes : List ℕ) (h : RequestHead) (rest : List ℕ) → IsHead bytes h rest → ¬ (IsHeadTooLong bytes) }
+{}
+
+/// A head stays, and so does each refusal, whatever bytes follow: once the front of some bytes is told,
+/// it is the front of all that begin with them. So it doesn't matter in which pieces they came.
+pub fn front_stays()
+    ensures head { (bytes more : List ℕ) (h : RequestHead) (rest : List ℕ) → IsHead bytes h rest → IsHead (bytes ++ more) h (rest ++ more) }
+    ensures malformed { (bytes more : List ℕ) → NeverHasHead bytes → NeverHasHead (bytes ++ more) }
+    ensures unframed { (bytes more : List ℕ) → IsMalformed bytes → IsMalformed (bytes ++ more) }
+    ensures many { (bytes more : List ℕ) → HasTooManyHeaders bytes → HasTooManyHeaders (bytes ++ more) }
+    ensures not_many { (bytes more : List ℕ) → NeverHasHead bytes → ¬ (HasTooManyHeaders bytes) → ¬ (HasTooManyHeaders (bytes ++ more)) }
+    ensures long { (bytes more : List ℕ) → IsHeadTooLong bytes → IsHeadTooLong (bytes ++ more) }
+    ensures window { (bytes more : List ℕ) → MAX_HEAD ≤ length bytes → window (bytes ++ more) ≡ window bytes }
+{}
+
+/// Where no head begins the bytes, or one that doesn't say where its body ends, or none ever will, no
+/// request begins them.
+pub fn no_request<R: Reading>()
+    ensures none { (bytes : List ℕ) → HasNoHead bytes → HasNoRequest R.ends bytes }
+    ensures malformed { (bytes : List ℕ) → IsMalformed bytes → HasNoRequest R.ends bytes }
+    ensures many { (bytes : List ℕ) → HasTooManyHeaders bytes → HasNoRequest R.ends bytes }
+{}

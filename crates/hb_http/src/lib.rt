@@ -1,0 +1,31 @@
+//! HTTP/1.1 as a registry reads it: heads of requests and the requests that bytes are.
+//!
+//! - [`read_head`]: the head at the front of some bytes, within [`MAX_HEAD`] and [`MAX_HEADERS`], and
+//!   which refusal stands there in its place. [`framing_of`] says where its body ends, and [`is_last`]
+//!   whether the connection closes behind it. None of them takes memory.
+//! - [`laws`]: what holds of the definitions. There is one front, one framing and one reading of some
+//!   bytes, and a front stays whatever follows, so it doesn't matter in which pieces the bytes came.
+//! - `specs/Requests`: the requests that bytes are, up to the first that closes, for every way to say
+//!   where a request ends. `specs/Heads`, `specs/Framing`, `specs/Headers`: heads within the limits,
+//!   where their bodies end, and whether they ask to close.
+//! - `specs/WholeLines`, `specs/Reaches`, `specs/BodyHeaders`: what the private functions say.
+//!
+//! The grammar of a head is the one of `httparse` (RFC 9112, sections 2 to 5).
+#![tactic(auto)]
+
+mod framing;
+mod header_lines;
+mod heads;
+pub mod laws;
+mod start_lines;
+#[cfg(test)]
+mod tests;
+
+pub use framing::{Framing, framing_of, is_last};
+pub use heads::{Front, read_head};
+
+/// The most bytes of a head, its first empty lines and its last one among them.
+pub const MAX_HEAD: usize = 65_536;
+
+/// The most headers of a head.
+pub const MAX_HEADERS: usize = 100;
