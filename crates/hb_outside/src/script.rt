@@ -58,4 +58,18 @@ impl Script {
     {
         self.faults = self.faults.saturating_add(1);
     }
+
+    /// How many calls there were, up to the end of a `u64`.
+    pub fn calls(&self) -> u64
+        ensures { result ≡ self.now.calls }
+    {
+        self.calls
+    }
+
+    /// How many faults were counted, up to the end of a `u64`.
+    pub fn faults(&self) -> u64
+        ensures { result ≡ self.now.faults }
+    {
+        self.faults
+    }
 }

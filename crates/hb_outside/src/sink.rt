@@ -1,8 +1,8 @@
-ghost use Rattle.std.specs.Prelude.{◌≡◌, ◌≤◌, ◌+◌, ◌++◌, ℕ, [], List, length, Some, IfOk, vec_len};
+ghost use Rattle.std.specs.Prelude.{◌≡◌, ◌<◌, ◌≤◌, ◌+◌, ◌++◌, ◌↔◌, ◌⊎◌, ℕ, [], List, length, take, Some, IfOk, IsErr, vec_len};
 ghost use Rattle.std.specs.Vec.{vec_capacity};
 ghost use Rattle.std.specs.declared.option.Option.{Option};
 ghost use Rattle.hb_outside.specs.Causes.{HasCause};
-ghost use Rattle.hb_outside.specs.Scripts.{IsNext};
+ghost use Rattle.hb_outside.specs.Scripts.{IsNext, Counts};
 ghost use Rattle.hb_outside.specs.Streams.{WriteAdds};
 
 use crate::script::Script;
@@ -78,22 +78,30 @@ impl Sink for MemSink {
 
     ghost faults = { λ s. s.script.faults };
 
-    fn write(&mut self, piece: &[u8]) -> Result<(), WriteFailed> {
+    fn write(&mut self, piece: &[u8]) -> Result<(), WriteFailed>
+        ensures bytes { WriteAdds (Some self.old.bytes.items) (Some self.new.bytes.items) result piece.now }
+        ensures cause { HasCause self.old.script.faults self.new.script.faults result }
+
+        // It fails exactly where the script says, and then writes nothing, or the room is overrun, and
+        // then it fills the room.
+        ensures failed { IsErr result ↔ (IsNext self.old.script ⊎ (self.old.room < length self.old.bytes.items + length piece.now)) }
+        ensures scripted { IsNext self.old.script → self.new.bytes.items ≡ self.old.bytes.items }
+        ensures written { ¬ (IsNext self.old.script) → self.new.bytes.items ≡ take self.old.room (self.old.bytes.items ++ piece.now) }
+        ensures room { self.new.room ≡ self.old.room }
+        ensures counted { Counts self.old.script self.new.script result }
+    {
         if self.script.begin() {
             return Err(WriteFailed);
         }
-        let left = self.room - self.bytes.len();
-        let fits = piece.len() <= left;
-        let part = if fits { piece.len() } else { left };
+        let part = piece.len().min(self.room - self.bytes.len());
         match self.bytes.extend_from_slice(&piece[..part]) {
             Ok(()) => {}
             Err(_) => unreachable!(),
         }
-        if fits {
-            Ok(())
-        } else {
+        if part < piece.len() {
             self.script.fault();
-            Err(WriteFailed)
+            return Err(WriteFailed);
         }
+        Ok(())
     }
 }

@@ -1,7 +1,8 @@
-ghost use Rattle.std.specs.Prelude.{◌≡◌, ◌↔◌, ◌<◌, ◌≤◌, ◌+◌, ◌++◌, ℕ, Bool, List, length, take, drop, Some, IfOk, IsErr};
+ghost use Rattle.std.specs.Prelude.{◌≡◌, ◌↔◌, ◌<◌, ◌≤◌, ◌+◌, ◌++◌, ◌-◌, ℕ, Bool, false, List, length, take, drop, min, max, slice_get, Some, IfOk, IsErr};
+ghost use Rattle.std.specs.Option.{option_map_or};
 ghost use Rattle.std.specs.declared.option.Option.{Option};
 ghost use Rattle.hb_outside.specs.Causes.{HasCause};
-ghost use Rattle.hb_outside.specs.Scripts.{IsNext};
+ghost use Rattle.hb_outside.specs.Scripts.{IsNext, Counts};
 ghost use Rattle.hb_outside.specs.Streams.{ReadGives, ReadEnds};
 
 use crate::script::Script;
@@ -63,6 +64,8 @@ impl MemSource {
     /// counted from 1, stand in `fails` fail.
     pub fn new(bytes: Vec<u8>, cuts: Vec<usize>, fails: Vec<u64>) -> MemSource
         ensures bytes { bytes_left result ≡ bytes.items }
+        ensures cuts { (result.cuts.items ≡ cuts.items) × (result.cut ≡ 0) }
+        ensures ended { result.ended ≡ false }
         ensures script { result.script ≡ record { calls = 0; faults = 0; fails = fails.items } }
     {
         MemSource {
@@ -79,6 +82,7 @@ impl MemSource {
 // The most bytes that the next read gives into so much room.
 fn most_of(cuts: &[usize], cut: usize, room: usize) -> usize
     requires { 0 < room }
+    ensures is { result ≡ option_map_or (λ most. min room (max most 1)) (slice_get cuts.now cut) room }
     ensures some { 0 < result }
     ensures room { result ≤ room }
 {
@@ -97,6 +101,7 @@ fn copy_some(bytes: &[u8], place: usize, most: usize, into: &mut [u8]) -> usize
     ensures count { result ≤ length into.new }
     ensures bytes { drop place bytes.now ≡ take result into.new ++ drop (place + result) bytes.now }
     ensures end { result ≡ 0 → place ≡ length bytes.now }
+    ensures amount { result ≡ min most (length bytes.now - place) }
 {
     let count = most.min(bytes.len() - place);
     into[..count].copy_from_slice(&bytes[place..place + count]);
@@ -104,7 +109,7 @@ fn copy_some(bytes: &[u8], place: usize, most: usize, into: &mut [u8]) -> usize
 }
 
 impl Source for MemSource {
-    ghost use Rattle.hb_outside.specs.Sources.{bytes_left};
+    ghost use Rattle.hb_outside.specs.Sources.{bytes_left, Cuts};
 
     ghost left = { λ s. Some (bytes_left s) };
 
@@ -118,7 +123,12 @@ impl Source for MemSource {
         ensures bytes { ReadGives (Some (bytes_left self.old)) (Some (bytes_left self.new)) result into.new }
         ensures end { ReadEnds self.old.ended self.new.ended (Some (bytes_left self.new)) result }
         ensures cause { HasCause self.old.script.faults self.new.script.faults result }
+
+        // It fails exactly where the script says, and else gives what the cuts say.
         ensures scripted { IsErr result ↔ IsNext self.old.script }
+        ensures counted { Counts self.old.script self.new.script result }
+        ensures cuts { Cuts self.old self.new (length into.old) result }
+        ensures same_cuts { self.new.cuts.items ≡ self.old.cuts.items }
     {
         if self.script.begin() {
             return Err(ReadFailed);

@@ -1,7 +1,10 @@
 //! Adapters over std: the trusted edge. They are proved against the traits like any implementation,
 //! and tell no bytes.
-ghost use Rattle.std.specs.Prelude.{◌≡◌, ◌<◌, ◌≤◌, ℕ, length, false, None};
+ghost use Rattle.std.specs.Prelude.{◌≡◌, ◌<◌, ◌≤◌, ℕ, length, false, None, IfOk, IfSome, OnOk};
 ghost use Rattle.std.specs.Io.{ReadsAtMost};
+ghost use Rattle.std.specs.Io.KnownBytes.{ReadConsumes, Appends};
+ghost use Rattle.hb_outside.specs.Causes.{HasCause, CountsFault};
+ghost use Rattle.hb_outside.specs.Streams.{ReadGives, ReadEnds, WriteAdds};
 
 use crate::clock::Clock;
 use crate::sink::{Sink, WriteFailed};
@@ -41,7 +44,8 @@ impl<R: Read> StdSource<R> {
 
 // Reads once, and again where the read was interrupted.
 fn read_through_interrupts<R: Read>(reader: &mut R, into: &mut [u8]) -> io::Result<usize>
-    ensures { ReadsAtMost result into.new }
+    ensures bound { ReadsAtMost result into.new }
+    ensures known { ReadConsumes (R.remaining reader.old) (R.remaining reader.new) result into.new }
 {
     for _ in 1..TRIES {
         match reader.read(into) {
@@ -59,7 +63,17 @@ impl<R: Read> Source for StdSource<R> {
 
     ghost faults = { λ s. s.faults };
 
-    fn read(&mut self, into: &mut [u8]) -> Result<usize, ReadFailed> {
+    fn read(&mut self, into: &mut [u8]) -> Result<usize, ReadFailed>
+        requires { 0 < length into.old }
+        ensures bound { IfOk result (λ n. n ≤ length into.new) }
+        ensures bytes { ReadGives None None result into.new }
+        ensures end { ReadEnds self.old.ended self.new.ended None result }
+        ensures cause { HasCause self.old.faults self.new.faults result }
+
+        // Where the reader's bytes are known, it gives the next of them.
+        ensures known { ReadConsumes (R.remaining self.old.reader) (R.remaining self.new.reader) result into.new }
+        ensures counted { CountsFault self.old.faults self.new.faults result }
+    {
         match read_through_interrupts(&mut self.reader, into) {
             Ok(count) => {
                 if count == 0 {
@@ -77,9 +91,10 @@ impl<R: Read> Source for StdSource<R> {
 
 /// A sink over a writer. Each piece is flushed, since a client waits for it.
 ///
-/// A short write goes on with the rest, and an interrupted one is made again. Each other error, as a
-/// broken pipe or a full disk, is `WriteFailed` and a counted fault; the writer may have taken a part
-/// of the piece.
+/// A short write goes on with the rest, and an interrupted one is made again as often as it takes: the
+/// `write_all` of std does both. A write that takes nothing, a flush that fails, interrupted ones too,
+/// and each other error, as a broken pipe or a full disk, is `WriteFailed` and a counted fault. The
+/// writer may have taken a part of the piece then, or where only the flush failed all of it.
 #[derive(Drop)]
 pub struct StdSink<W> {
     writer: W,
@@ -96,7 +111,8 @@ impl<W: Write> StdSink<W> {
     }
 
     fn write_through(&mut self, piece: &[u8]) -> io::Result<()>
-        ensures { self.new.faults ≡ self.old.faults }
+        ensures known { OnOk result (Appends (W.contents self.old.writer) (W.contents self.new.writer) piece.now) }
+        ensures faults { self.new.faults ≡ self.old.faults }
     {
         self.writer.write_all(piece)?;
         self.writer.flush()
@@ -108,7 +124,14 @@ impl<W: Write> Sink for StdSink<W> {
 
     ghost faults = { λ s. s.faults };
 
-    fn write(&mut self, piece: &[u8]) -> Result<(), WriteFailed> {
+    fn write(&mut self, piece: &[u8]) -> Result<(), WriteFailed>
+        ensures bytes { WriteAdds None None result piece.now }
+        ensures cause { HasCause self.old.faults self.new.faults result }
+
+        // Where the writer's bytes are known, it wrote the piece behind them.
+        ensures known { OnOk result (Appends (W.contents self.old.writer) (W.contents self.new.writer) piece.now) }
+        ensures counted { CountsFault self.old.faults self.new.faults result }
+    {
         match self.write_through(piece) {
             Ok(()) => Ok(()),
             Err(_) => {
@@ -130,7 +153,8 @@ pub struct StdClock<'a, R> {
 impl<'a, R: std::time::Clock> StdClock<'a, R> {
     /// The clock of this runtime.
     pub fn new(runtime: &'a R) -> StdClock<'a, R>
-        ensures { result.last ≡ 0 }
+        ensures runtime { result.runtime.now ≡ runtime.now }
+        ensures last { result.last ≡ 0 }
     {
         StdClock { runtime, last: 0 }
     }
@@ -139,7 +163,10 @@ impl<'a, R: std::time::Clock> StdClock<'a, R> {
 impl<'a, R: std::time::Clock> Clock for StdClock<'a, R> {
     ghost upcoming = { λ _. None };
 
-    fn now(&mut self) -> u64 {
+    fn now(&mut self) -> u64
+        ensures reading { IfSome None (λ moment. result ≡ moment) }
+        ensures last { self.new.last ≡ result }
+    {
         if let Ok(time) = SystemTime::now(self.runtime) {
             if let Ok(since) = time.duration_since(SystemTime::UNIX_EPOCH) {
                 self.last = since.as_secs();
@@ -148,7 +175,10 @@ impl<'a, R: std::time::Clock> Clock for StdClock<'a, R> {
         self.last
     }
 
-    fn twin(&self) -> StdClock<'a, R> {
+    fn twin(&self) -> StdClock<'a, R>
+        ensures runtime { result.runtime.now ≡ self.now.runtime.now }
+        ensures last { result.last ≡ self.now.last }
+    {
         StdClock {
             runtime: self.runtime,
             last: self.last,

@@ -1,5 +1,5 @@
 -- What appends and reads make of the bytes of a stage and of a reader.
-use Rattle.std.specs.Prelude.{◌≡◌, ◌<◌, ◌≤◌, ◌+◌, ℕ, List, ◌++◌, length, take, drop, Some, None, Result, Ok, Err, IfOk, IfSome, MatchResult}
+use Rattle.std.specs.Prelude.{◌≡◌, ◌<◌, ◌≤◌, ◌+◌, ℕ, List, ◌++◌, take, drop, Some, None, Result, Ok, Err, IfOk, IfSome, MatchResult}
 use Rattle.std.specs.declared.option.Option.{Option}
 use Rattle.hb_outside.specs.Streams.{ReadGives}
 use Rattle.hb_store.specs.declared.store.StoreFault.{StoreFault}

@@ -1,5 +1,5 @@
 -- What the calls of a store make of what it holds.
-use Rattle.std.specs.Prelude.{◌≡◌, ◌≤◌, ℕ, Bool, List, fold, length, take, Some, None, Result, Ok, Err, IfSome, IsSomeAnd, if◌then◌else◌}
+use Rattle.std.specs.Prelude.{◌≡◌, ◌≤◌, ℕ, Bool, List, fold, length, Some, None, Result, Ok, Err, IfSome, IsSomeAnd, if◌then◌else◌}
 use Rattle.std.specs.List.{AllByRecursion}
 use Rattle.std.specs.declared.option.Option.{Option}
 use Rattle.hb_text.specs.declared.digests.Digest.{Digest}
@@ -36,7 +36,7 @@ Placing id (Some bytes) d (Ok _) found new = new ≡ unstaged id (holding d byte
 Placing id (Some bytes) d (Err Failed) found new =
     (held : Bool) × (ended : Bool)
     × (new ≡ (if ended then unstaged id (if held then holding d bytes (counting d bytes found) else counting d bytes found)
-        else (if held then holding d bytes (counting d bytes found) else counting d bytes found)))
+    else (if held then holding d bytes (counting d bytes found) else counting d bytes found)))
 Placing id (Some bytes) d (Err Memory) found new = new ≡ found
 
 -- the upload has no stage; where the call failed, that or nothing

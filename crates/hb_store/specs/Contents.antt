@@ -1,5 +1,5 @@
 -- What a store holds.
-use Rattle.std.specs.Prelude.{◌≡◌, ◌<◌, ℕ, ◌==◌, Bool, not, List, [], filter, fold, length, take, Contains, Some, None, unwrap_or, max, ◌∷◌}
+use Rattle.std.specs.Prelude.{◌<◌, ℕ, not, List, [], filter, length, take, Contains, unwrap_or, max, ◌∷◌}
 use Rattle.std.specs.declared.option.Option.{Option}
 use Rattle.std.specs.Option.{option_map}
 use Rattle.std.specs.Ordering.{nat_cmp, is_eq}
@@ -36,12 +36,18 @@ abbrev pub held_key : HeldBlob → Digest
 held_key row = row.digest
 
 -- the bytes of an upload's stage, none where it has no stage
+abbrev pub staged_in : ℕ → List StagedBytes → List ℕ
+staged_in id stages = unwrap_or (option_map (λ row. row.bytes) (row_at nat_cmp stage_key id stages)) []
+
 abbrev pub staged_bytes : Contents → ℕ → List ℕ
-staged_bytes c id = unwrap_or (option_map (λ row. row.bytes) (row_at nat_cmp stage_key id c.stages)) []
+staged_bytes c id = staged_in id c.stages
 
 -- the bytes held under a digest
+abbrev pub held_in : Digest → List HeldBlob → Option (List ℕ)
+held_in d held = option_map (λ row. row.bytes) (row_at digest_cmp held_key d held)
+
 abbrev pub bytes_of : Contents → Digest → Option (List ℕ)
-bytes_of c d = option_map (λ row. row.bytes) (row_at digest_cmp held_key d c.held)
+bytes_of c d = held_in d c.held
 
 -- with the first bytes of the upload's stage as its stage
 abbrev pub staging : ℕ → ℕ → Contents → Contents

@@ -10,6 +10,7 @@
 //! Each call says what it makes of them, where the store tells them.
 #![tactic(auto)]
 
+mod copying;
 mod mem_reader;
 mod mem_stage;
 mod mem_store;
@@ -21,3 +22,6 @@ pub use mem_stage::MemStage;
 pub use mem_store::MemStore;
 pub use rows::{HeldBlob, Lapsing, Placed, StagedBytes};
 pub use store::{Reader, Stage, Store, StoreFault};
+
+#[cfg(test)]
+mod tests;

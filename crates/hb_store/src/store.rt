@@ -3,9 +3,12 @@ ghost use Rattle.std.specs.declared.option.Option.{Option};
 ghost use Rattle.hb_store.specs.Contents.{Contents};
 ghost use Rattle.hb_store.specs.Calls.{Becomes, Unchanged, Staging, Placing, Dropping, Stages, Fetches};
 ghost use Rattle.hb_store.specs.Causes.{StoreCause};
+ghost use Rattle.hb_store.specs.declared.store.StoreFault.TheVariants.{Memory};
 ghost use Rattle.hb_store.specs.Bytes.{Appends, StageReads, StageCount, ReaderReads, ReaderCount};
 
+use hb_base::Memory;
 use hb_text::Digest;
+use std::alloc::AllocError;
 use std::error::Error;
 use std::fmt;
 
@@ -28,6 +31,22 @@ impl fmt::Display for StoreFault {
 }
 
 impl Error for StoreFault {}
+
+impl From<Memory> for StoreFault {
+    ghost from_gives = { λ _ fault. fault ≡ Memory };
+
+    fn from(_fault: Memory) -> StoreFault {
+        StoreFault::Memory
+    }
+}
+
+impl From<AllocError> for StoreFault {
+    ghost from_gives = { λ _ fault. fault ≡ Memory };
+
+    fn from(_fault: AllocError) -> StoreFault {
+        StoreFault::Memory
+    }
+}
 
 /// The bytes of an upload on their way in, out of the store that gave them.
 pub trait Stage: Drop {

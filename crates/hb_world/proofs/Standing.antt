@@ -1,0 +1,135 @@
+-- What the calls of a store leave of what it holds.
+use Rattle.std.proofs.Common.{◌≡◌, ◌<◌, ℕ, Bool, true, false, cond, List, [], ◌∷◌, length, Option, Some, None, Result, Ok, Err, IfSome, IsSome, IsSomeAnd, refl, sym, ap, subst, ◌∙◌, fold, arith}
+use Rattle.std.specs.List.{AllByRecursion}
+use Rattle.std.specs.Ordering.{is_eq}
+use Rattle.hb_text.specs.Digests.{digest_of}
+use Rattle.hb_text.specs.declared.digests.Digest.{Digest}
+use Rattle.hb_store.specs.Contents.{Contents, digest_cmp, bytes_of, IsLapsing, lapsed, at_moment, holding, counting, staging, unstaged}
+use Rattle.hb_store.specs.Calls.{Finds, Becomes, Staging, Placing, Dropping, Unchanged}
+use Rattle.hb_store.specs.declared.store.StoreFault.{StoreFault}
+use Rattle.hb_store.specs.declared.store.StoreFault.TheVariants.{Failed, Memory}
+use Rattle.hb_store.proofs.HeldBytes.{digest_cmp-equal, digest_cmp-same, bytes_of-holding, bytes_of-lapsed}
+use Rattle.hb_world.specs.First.{IsTrueTo, IsHeld, StillHolds, Stands, Holds}
+
+StillHolds-trans : (a b c : Contents) → StillHolds a b → StillHolds b c → StillHolds a c
+StillHolds-trans a b c x y = record {
+  true_still = λ d h. y.true_still d (x.true_still d h);
+  none_lapsing = λ e. y.none_lapsing (x.none_lapsing e);
+  held_still = λ e d h. y.held_still (x.none_lapsing e) d (x.held_still e d h);
+}
+
+-- the same blobs and the same removals
+StillHolds-same : (c : Contents) → StillHolds c c
+StillHolds-same c = record { true_still = λ d h. h; none_lapsing = λ e. e; held_still = λ e d h. h }
+
+true_unless : (d : Digest) (b : Bool) (held : Option (List ℕ)) → IfSome held (λ bytes. digest_of bytes ≡ d) → IfSome (cond b None held) (λ bytes. digest_of bytes ≡ d)
+true_unless d true held h = tt
+true_unless d false held h = h
+
+-- a removal that takes effect leaves the other blobs
+IsTrueTo-lapsed : (c : Contents) (x d : Digest) → IsTrueTo c d → IsTrueTo (lapsed c x) d
+IsTrueTo-lapsed c x d h = subst (λ held. IfSome held (λ bytes. digest_of bytes ≡ d)) (sym (bytes_of-lapsed c x d)) (true_unless d (is_eq (digest_cmp d x)) (bytes_of c d) h)
+
+IsTrueTo-folded : (c : Contents) (xs : List Digest) (d : Digest) → IsTrueTo c d → IsTrueTo (fold lapsed c xs) d
+IsTrueTo-folded c [] d h = h
+IsTrueTo-folded c (x ∷ xs) d h = IsTrueTo-folded (lapsed c x) xs d (IsTrueTo-lapsed c x d h)
+
+-- where a removal is lapsing, some are
+none_is_none : (c : Contents) (x : Digest) → IsLapsing c x → c.lapsing ≡ [] → ⊥
+none_is_none c x l e = let none : length c.lapsing ≡ 0 = ap length e in let some = l.1.1 in absurd (omega arith)
+
+StillHolds-folded : (c : Contents) (xs : List Digest) → AllByRecursion (IsLapsing c) xs → StillHolds c (fold lapsed c xs)
+StillHolds-folded c [] live = StillHolds-same c
+StillHolds-folded c (x ∷ xs) live = record {
+  true_still = IsTrueTo-folded c (x ∷ xs);
+  none_lapsing = λ e. absurd (none_is_none c x live.0 e);
+  held_still = λ e. absurd (none_is_none c x live.0 e);
+}
+
+-- what a call finds
+StillHolds-found : (c : Contents) (now : ℕ) (found : Contents) → Finds c now found → StillHolds c found
+StillHolds-found c now found finds =
+    let folded = StillHolds-folded c finds.digests finds.live in
+    subst (StillHolds c) (sym finds.is) (record { true_still = folded.true_still; none_lapsing = folded.none_lapsing; held_still = folded.held_still })
+
+-- the bytes that were placed have their digest, and the others are as before
+IsTrueTo-holding : (c : Contents) (d q : Digest) (bytes : List ℕ) → digest_of bytes ≡ d → IsTrueTo c q → IsTrueTo (holding d bytes c) q
+IsTrueTo-holding c d q bytes same h =
+    subst (λ held. IfSome held (λ bytes. digest_of bytes ≡ q)) (sym (bytes_of-holding c d q bytes))
+    (elim (is_eq (digest_cmp q d)) as (λ b. is_eq (digest_cmp q d) ≡ b → IfSome (cond b (Some bytes) (bytes_of c q)) (λ bytes. digest_of bytes ≡ q)) [
+      | true ↦ λ e. same ∙ sym (digest_cmp-equal q d e)
+      | false ↦ λ e. h
+    ] refl)
+
+held_or : (b : Bool) (bytes : List ℕ) (held : Option (List ℕ)) → IsSome held → IsSome (cond b (Some bytes) held)
+held_or true bytes held h = refl
+held_or false bytes held h = h
+
+StillHolds-holding : (c : Contents) (d : Digest) (bytes : List ℕ) → digest_of bytes ≡ d → StillHolds c (holding d bytes c)
+StillHolds-holding c d bytes same = record {
+  true_still = λ q h. IsTrueTo-holding c d q bytes same h;
+  none_lapsing = λ e. e;
+  held_still = λ e q h. subst IsSome (sym (bytes_of-holding c d q bytes)) (held_or (is_eq (digest_cmp q d)) bytes (bytes_of c q) h);
+}
+
+-- a call stands where its own effect does
+Stands-becomes : (old : Option Contents) (now : ℕ) (Effect : Contents → Contents → Type 0) (new : Option Contents) → ((found c : Contents) → Effect found c → StillHolds found c) → Becomes old now Effect new → Stands old new
+Stands-becomes None now Effect new keeps becomes = becomes
+Stands-becomes (Some c) now Effect None keeps becomes = becomes.2
+Stands-becomes (Some c) now Effect (Some c') keeps becomes = StillHolds-trans c becomes.0 c' (StillHolds-found c now becomes.0 becomes.1) (keeps becomes.0 c' becomes.2)
+
+-- Stages touch no blob.
+StillHolds-staging : {T : Type 0} (id keep : ℕ) (result : Result T StoreFault) (found c : Contents) → Staging id keep result found c → StillHolds found c
+StillHolds-staging id keep (Ok s) found c effect = subst (StillHolds found) (sym effect.1) (record { true_still = λ d h. h; none_lapsing = λ e. e; held_still = λ e d h. h })
+StillHolds-staging id keep (Err Failed) found c (true, is) = subst (StillHolds found) (sym is) (record { true_still = λ d h. h; none_lapsing = λ e. e; held_still = λ e d h. h })
+StillHolds-staging id keep (Err Failed) found c (false, is) = subst (StillHolds found) (sym is) (StillHolds-same found)
+StillHolds-staging id keep (Err Memory) found c effect = subst (StillHolds found) (sym effect) (StillHolds-same found)
+
+pub Stands-staging : {T : Type 0} (old : Option Contents) (now id keep : ℕ) (result : Result T StoreFault) (new : Option Contents) → Becomes old now (Staging id keep result) new → Stands old new
+Stands-staging old now id keep result new = Stands-becomes old now (Staging id keep result) new (StillHolds-staging id keep result)
+
+StillHolds-dropping : {T : Type 0} (id : ℕ) (result : Result T StoreFault) (found c : Contents) → Dropping id result found c → StillHolds found c
+StillHolds-dropping id (Ok s) found c effect = subst (StillHolds found) (sym effect) (record { true_still = λ d h. h; none_lapsing = λ e. e; held_still = λ e d h. h })
+StillHolds-dropping id (Err Failed) found c (true, is) = subst (StillHolds found) (sym is) (record { true_still = λ d h. h; none_lapsing = λ e. e; held_still = λ e d h. h })
+StillHolds-dropping id (Err Failed) found c (false, is) = subst (StillHolds found) (sym is) (StillHolds-same found)
+StillHolds-dropping id (Err Memory) found c effect = subst (StillHolds found) (sym effect) (StillHolds-same found)
+
+pub Stands-dropping : {T : Type 0} (old : Option Contents) (now id : ℕ) (result : Result T StoreFault) (new : Option Contents) → Becomes old now (Dropping id result) new → Stands old new
+Stands-dropping old now id result new = Stands-becomes old now (Dropping id result) new (StillHolds-dropping id result)
+
+-- a content of the right digest is placed, and held where the call was acknowledged
+StillHolds-placing : {T : Type 0} (id : ℕ) (d : Digest) (bytes : List ℕ) (result : Result T StoreFault) (found c : Contents) → digest_of bytes ≡ d → Placing id (Some bytes) d result found c → StillHolds found c
+StillHolds-placing id d bytes (Ok s) found c same effect = let kept = StillHolds-holding found d bytes same in subst (StillHolds found) (sym effect) (record { true_still = kept.true_still; none_lapsing = kept.none_lapsing; held_still = kept.held_still })
+StillHolds-placing id d bytes (Err Failed) found c same (true, true, is) = let kept = StillHolds-holding found d bytes same in subst (StillHolds found) (sym is) (record { true_still = kept.true_still; none_lapsing = kept.none_lapsing; held_still = kept.held_still })
+StillHolds-placing id d bytes (Err Failed) found c same (true, false, is) = let kept = StillHolds-holding found d bytes same in subst (StillHolds found) (sym is) (record { true_still = kept.true_still; none_lapsing = kept.none_lapsing; held_still = kept.held_still })
+StillHolds-placing id d bytes (Err Failed) found c same (false, true, is) = subst (StillHolds found) (sym is) (record { true_still = λ d h. h; none_lapsing = λ e. e; held_still = λ e d h. h })
+StillHolds-placing id d bytes (Err Failed) found c same (false, false, is) = subst (StillHolds found) (sym is) (record { true_still = λ d h. h; none_lapsing = λ e. e; held_still = λ e d h. h })
+StillHolds-placing id d bytes (Err Memory) found c same effect = subst (StillHolds found) (sym effect) (StillHolds-same found)
+
+-- where the store tells its contents, the stage tells its bytes
+pub Stands-placing : {T : Type 0} (old : Option Contents) (now id : ℕ) (told : Option (List ℕ)) (d : Digest) (bytes : List ℕ) (result : Result T StoreFault) (new : Option Contents) → digest_of bytes ≡ d → IfSome old (λ c. told ≡ Some bytes) → Becomes old now (Placing id told d result) new → Stands old new
+Stands-placing None now id told d bytes result new same is becomes = becomes
+Stands-placing (Some c) now id told d bytes result new same is becomes =
+    Stands-becomes (Some c) now (Placing id (Some bytes) d result) new (λ found c. StillHolds-placing id d bytes result found c same) (subst (λ told. Becomes (Some c) now (Placing id told d result) new) is becomes)
+
+bytes_of-placed : (c : Contents) (d : Digest) (bytes : List ℕ) → bytes_of (holding d bytes c) d ≡ Some bytes
+bytes_of-placed c d bytes = bytes_of-holding c d d bytes ∙ ap (λ b. cond b (Some bytes) (bytes_of c d)) (digest_cmp-same d)
+
+placed_there : (id : ℕ) (d : Digest) (bytes : List ℕ) (found c : Contents) → c ≡ unstaged id (holding d bytes (counting d bytes found)) → bytes_of c d ≡ Some bytes
+placed_there id d bytes found c is = ap (λ c. bytes_of c d) is ∙ bytes_of-placed found d bytes
+
+pub Holds-placed : {T : Type 0} (old : Option Contents) (now id : ℕ) (told : Option (List ℕ)) (d : Digest) (bytes : List ℕ) (value : T) (new : Option Contents) → IfSome old (λ c. told ≡ Some bytes) → Becomes old now (Placing id told d (Ok value)) new → Holds new d bytes
+Holds-placed None now id told d bytes value new is becomes = subst (λ new. Holds new d bytes) (sym becomes) tt
+Holds-placed (Some c) now id told d bytes value None is becomes = tt
+Holds-placed (Some c) now id told d bytes value (Some c') is becomes =
+    let at = subst (λ told. Becomes (Some c) now (Placing id told d (Ok value)) (Some c')) is becomes in
+    placed_there id d bytes at.0 c' at.2
+
+pub Stands-unchanged : (old : Option Contents) (now : ℕ) (new : Option Contents) → Becomes old now Unchanged new → Stands old new
+Stands-unchanged old now new = Stands-becomes old now Unchanged new (λ found c e. subst (StillHolds found) (sym e) (StillHolds-same found))
+
+pub Stands-trans : (a b c : Option Contents) → Stands a b → Stands b c → Stands a c
+Stands-trans None b c x y = subst (λ b. Stands b c) x y
+Stands-trans (Some a) None c x y = absurd x
+Stands-trans (Some a) (Some b) None x y = y
+Stands-trans (Some a) (Some b) (Some c) x y = StillHolds-trans a b c x y
