@@ -1,12 +1,11 @@
 -- A blob that was pushed is opened with bytes of its digest.
-use Rattle.std.proofs.Common.{◌≡◌, ℕ, List, ◌++◌, ◌∷◌, [], length, Option, Some, None, IfSome, IsSomeAnd, refl, sym, ap, subst, ◌∙◌, ◌⊎◌, inl, inr}
-use Rattle.std.specs.List.{Contains}
+use Rattle.std.proofs.Common.{◌≡◌, ℕ, List, ◌++◌, ◌∷◌, [], length, Option, Some, None, IfSome, IsSomeAnd, sym, subst, ◌∙◌, inl, inr}
 use Rattle.std.proofs.lemmas.List.Elements.{Contains-push_cases}
 use Rattle.hb_text.specs.Digests.{digest_of}
 use Rattle.hb_text.specs.declared.digests.Digest.{Digest}
 use Rattle.hb_store.specs.Contents.{Contents, bytes_of}
 use Rattle.hb_store.specs.Calls.{Fetches}
-use Rattle.hb_world.specs.First.{IsTrueTo, HoldsPushed, StillHolds, Stands, Holds}
+use Rattle.hb_world.specs.First.{IsTrueTo, HoldsPushed, Stands, Holds}
 use Rattle.hb_world.specs.declared.first.Pushed.{Pushed}
 
 pub HoldsPushed-stands : (old new : Option Contents) (pushed : List Pushed) → Stands old new → HoldsPushed old pushed → HoldsPushed new pushed

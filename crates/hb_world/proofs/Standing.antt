@@ -1,15 +1,15 @@
 -- What the calls of a store leave of what it holds.
-use Rattle.std.proofs.Common.{◌≡◌, ◌<◌, ℕ, Bool, true, false, cond, List, [], ◌∷◌, length, Option, Some, None, Result, Ok, Err, IfSome, IsSome, IsSomeAnd, refl, sym, ap, subst, ◌∙◌, fold, arith}
+use Rattle.std.proofs.Common.{◌≡◌, ℕ, Bool, true, false, cond, List, [], ◌∷◌, length, Option, Some, None, Result, Ok, Err, IfSome, IsSome, refl, sym, ap, subst, ◌∙◌, fold, arith}
 use Rattle.std.specs.List.{AllByRecursion}
 use Rattle.std.specs.Ordering.{is_eq}
 use Rattle.hb_text.specs.Digests.{digest_of}
 use Rattle.hb_text.specs.declared.digests.Digest.{Digest}
-use Rattle.hb_store.specs.Contents.{Contents, digest_cmp, bytes_of, IsLapsing, lapsed, at_moment, holding, counting, staging, unstaged}
+use Rattle.hb_store.specs.Contents.{Contents, digest_cmp, bytes_of, IsLapsing, lapsed, holding, counting, unstaged}
 use Rattle.hb_store.specs.Calls.{Finds, Becomes, Staging, Placing, Dropping, Unchanged}
 use Rattle.hb_store.specs.declared.store.StoreFault.{StoreFault}
 use Rattle.hb_store.specs.declared.store.StoreFault.TheVariants.{Failed, Memory}
 use Rattle.hb_store.proofs.HeldBytes.{digest_cmp-equal, digest_cmp-same, bytes_of-holding, bytes_of-lapsed}
-use Rattle.hb_world.specs.First.{IsTrueTo, IsHeld, StillHolds, Stands, Holds}
+use Rattle.hb_world.specs.First.{IsTrueTo, StillHolds, Stands, Holds}
 
 StillHolds-trans : (a b c : Contents) → StillHolds a b → StillHolds b c → StillHolds a c
 StillHolds-trans a b c x y = record {

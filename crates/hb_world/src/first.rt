@@ -1,16 +1,18 @@
 //! A world that knows which blobs were pushed.
-ghost use Rattle.std.specs.Prelude.{◌≡◌, ◌≢◌, ◌↔◌, ◌≤◌, ◌++◌, [], ◌∷◌, ◌⊎◌, ℕ, List, length, Contains, IsTrue, Some, IfOk, IfSome, IsSomeAnd, OnOk, OnErr, IsErrOf};
+ghost use Rattle.std.specs.Prelude.{◌≡◌, ◌≢◌, ◌↔◌, ◌≤◌, ◌++◌, [], ◌∷◌, ◌⊎◌, ℕ, List, length, Contains, IsTrue, Some, None, IfOk, IfSome, IsSomeAnd, OnOk, OnErr, IsErrOf};
 ghost use Rattle.hb_text.specs.Digests.{digest_of};
 ghost use Rattle.hb_text.specs.Names.{project_of};
 ghost use Rattle.hb_store.specs.Causes.{StorageRose};
 ghost use Rattle.hb_store.specs.Contents.{bytes_of};
 ghost use Rattle.hb_outside.specs.Causes.{Rose};
-ghost use Rattle.hb_world.specs.First.{Holds, IsTrueTo, Stands};
+ghost use Rattle.hb_world.specs.First.{Holds, HoldsPushed, IsTrueTo, Stands};
 
 use hb_base::Memory;
 use hb_store::{Reader, Stage, Store, StoreFault};
 use hb_text::{Digest, Name, Text};
 use std::alloc::Global;
+use std::error::Error;
+use std::fmt;
 use std::marker::Model;
 
 /// Why a call of the world is refused.
@@ -23,6 +25,18 @@ pub enum Refusal {
     /// Memory was wanting.
     Memory,
 }
+
+impl fmt::Display for Refusal {
+    fn fmt<W: fmt::Write>(&self, f: &mut fmt::Formatter<W>) -> fmt::Result {
+        match self {
+            Refusal::BlobUnknown => write!(f, "blob unknown"),
+            Refusal::Storage => write!(f, "storage failed"),
+            Refusal::Memory => write!(f, "out of memory"),
+        }
+    }
+}
+
+impl Error for Refusal {}
 
 /// A blob that was pushed to a project.
 #[derive(Drop)]
@@ -172,7 +186,7 @@ fn open_held<S: Store>(
     now: u64,
 ) -> Result<Opened<S::Reader>, Refusal>
     requires { IfSome (S.contents store.old) (λ c. IsTrueTo c digest.now) }
-    ensures opened { IfOk result (λ o. (o.digest ≡ digest.now) × (o.size ≡ S.Reader.left o.reader)) }
+    ensures opened { IfOk result (λ o. (o.digest ≡ digest.now) × (o.size ≡ S.Reader.left o.reader) × (o.media ≡ None)) }
     ensures bytes { IfSome (S.contents store.old) (λ _. IfOk result (λ o. IsSomeAnd (S.Reader.bytes o.reader) (λ b. (digest_of b ≡ digest.now) × (length b ≡ o.size)))) }
     ensures stands { Stands (S.contents store.old) (S.contents store.new) }
     ensures known { ¬ (IsErrOf result Refusal.BlobUnknown) }
@@ -207,9 +221,10 @@ impl<S: Store> World<S> {
         }
     }
 
-    /// The store.
+    /// The store, which holds what was pushed.
     pub fn close(self) -> S
-        ensures { result ≡ self.store }
+        ensures store { result ≡ self.store }
+        ensures holds { HoldsPushed (S.contents result) self.pushed }
     {
         let World {
             alloc: _,
@@ -268,7 +283,7 @@ impl<S: Store> World<S> {
         digest: &Digest,
         now: u64,
     ) -> Result<Opened<S::Reader>, Refusal>
-        ensures opened { IfOk result (λ o. (o.digest ≡ digest.now) × (o.size ≡ S.Reader.left o.reader)) }
+        ensures opened { IfOk result (λ o. (o.digest ≡ digest.now) × (o.size ≡ S.Reader.left o.reader) × (o.media ≡ None)) }
         ensures bytes { IfSome (S.contents self.old.store) (λ _. IfOk result (λ o. IsSomeAnd (S.Reader.bytes o.reader) (λ b. (digest_of b ≡ digest.now) × (length b ≡ o.size)))) }
         ensures unknown { IsErrOf result Refusal.BlobUnknown → ¬ Contains self.old.pushed (record { project = project_of name.now; digest = digest.now }) }
         ensures known { ¬ (IsErrOf result Refusal.BlobUnknown) → Contains self.old.pushed (record { project = project_of name.now; digest = digest.now }) }

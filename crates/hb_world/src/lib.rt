@@ -8,3 +8,5 @@
 #![tactic(auto)]
 
 pub mod first;
+#[cfg(test)]
+mod tests;

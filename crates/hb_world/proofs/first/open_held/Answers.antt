@@ -1,4 +1,3 @@
-use Rattle.std.proofs.Common.{rules}
 use Rattle.hb_world.proofs.Opening.{opened_bytes}
 use Rattle.hb_world.proofs.Standing.{Stands-unchanged}
 use Rattle.hb_world.proofs.first.open_held.Goals as goal
