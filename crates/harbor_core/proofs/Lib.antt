@@ -1,0 +1,6 @@
+pub mod Pieces
+pub mod Requests
+pub mod Streams
+pub mod Talking
+pub mod Targets
+pub mod Turning

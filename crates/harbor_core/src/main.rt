@@ -1,0 +1,49 @@
+//! Harbor core: the program.
+#![tactic(auto)]
+
+mod answers;
+mod ends;
+mod filled;
+mod first_requests;
+mod fronts;
+mod incoming;
+mod run;
+mod serving;
+mod talk;
+#[cfg(test)]
+mod tests;
+mod whole;
+
+use crate::run::run;
+use hb_outside::{StdClock, StdSink, StdSource};
+use hb_store::MemStore;
+use hb_text::{Memory, Text};
+use std::alloc::Global;
+use std::process::ExitCode;
+use std::{env, io};
+
+// The words behind the program's name.
+fn words(rt: &HostRuntime) -> io::Result<Vec<Text>> {
+    let alloc = rt.alloc();
+    let mut words = Vec::new(alloc);
+    for word in env::args(rt)?.skip(1) {
+        let text = Text::new(alloc, word.as_bytes()).map_err(|_| io::Error::from(
+            io::ErrorKind::OutOfMemory,
+        ))?;
+        words.push(text)?;
+    }
+    Ok(words)
+}
+
+fn main(rt: HostRuntime) -> ExitCode {
+    let alloc = rt.alloc();
+    let Ok(words) = words(&rt) else {
+        return ExitCode::from(7);
+    };
+    let mut clock = StdClock::new(&rt);
+    let mut input = StdSource::new(rt.reader());
+    let mut out = StdSink::new(io::writer(&rt));
+    let store = MemStore::new(alloc, Vec::new(alloc));
+    let ended = run(alloc, &words, &mut clock, &mut input, &mut out, store);
+    ExitCode::from(ended.status)
+}

@@ -1,0 +1,239 @@
+use crate::run::run;
+use hb_outside::{MemSink, MemSource, StepClock};
+use hb_store::MemStore;
+use hb_text::Text;
+use std::alloc::Global;
+use std::test::Fail;
+
+const PUSH: &[u8] =
+    b"POST /v2/library/a/blobs/uploads/?digest=sha256:ba7816bf8f01cfea414140de5dae2223b00361a396177a9cb410ff61f20015ad HTTP/1.1\r\nHost: r\r\nContent-Length: 3\r\n\r\nabc";
+
+const PULL: &[u8] =
+    b"GET /v2/library/a/blobs/sha256:ba7816bf8f01cfea414140de5dae2223b00361a396177a9cb410ff61f20015ad HTTP/1.1\r\nHost: r\r\n\r\n";
+
+const CREATED: &[u8] =
+    b"HTTP/1.1 201 Created\r\nContent-Length: 0\r\nDocker-Content-Digest: sha256:ba7816bf8f01cfea414140de5dae2223b00361a396177a9cb410ff61f20015ad\r\nLocation: /v2/library/a/blobs/sha256:ba7816bf8f01cfea414140de5dae2223b00361a396177a9cb410ff61f20015ad\r\n\r\n";
+
+const PULLED: &[u8] =
+    b"HTTP/1.1 200 OK\r\nContent-Length: 3\r\nContent-Type: application/octet-stream\r\nDocker-Content-Digest: sha256:ba7816bf8f01cfea414140de5dae2223b00361a396177a9cb410ff61f20015ad\r\n\r\nabc";
+
+const UNKNOWN: &[u8] =
+    b"HTTP/1.1 404 Not Found\r\nContent-Length: 73\r\nContent-Type: application/json\r\n\r\n{\"errors\":[{\"code\":\"BLOB_UNKNOWN\",\"detail\":{},\"message\":\"blob unknown\"}]}";
+
+const UNSUPPORTED: &[u8] =
+    b"HTTP/1.1 404 Not Found\r\nConnection: close\r\nContent-Length: 71\r\nContent-Type: application/json\r\n\r\n{\"errors\":[{\"code\":\"UNSUPPORTED\",\"detail\":{},\"message\":\"unsupported\"}]}";
+
+const STORAGE: &[u8] =
+    b"HTTP/1.1 500 Internal Server Error\r\nContent-Length: 63\r\nContent-Type: application/json\r\n\r\n{\"errors\":[{\"code\":\"STORAGE\",\"detail\":{},\"message\":\"storage\"}]}";
+
+// What a talk answers and how it ends.
+fn talk(
+    alloc: Global,
+    input: &[u8],
+    cut: usize,
+    reads: Vec<u64>,
+    writes: Vec<u64>,
+    store: MemStore,
+) -> Result<(u8, Vec<u8>), Fail> {
+    let words = vec![in alloc; Text::new(alloc, b"talk")?]?;
+    let cuts = vec![in alloc; cut; 2_000]?;
+    let mut source = MemSource::new(Vec::from_slice(alloc, input)?, cuts, reads);
+    let mut sink = MemSink::new(alloc, 10_000, writes)?;
+    let ended = run(
+        alloc,
+        &words,
+        &mut StepClock::new(5, 1),
+        &mut source,
+        &mut sink,
+        store,
+    );
+    Ok((ended.status, Vec::from_slice(alloc, sink.bytes())?))
+}
+
+// A talk over devices that don't fail.
+fn plain(alloc: Global, input: &[u8], cut: usize) -> Result<(u8, Vec<u8>), Fail> {
+    let store = MemStore::new(alloc, Vec::new(alloc));
+    talk(alloc, input, cut, Vec::new(alloc), Vec::new(alloc), store)
+}
+
+fn joined(alloc: Global, pieces: &[&'static [u8]]) -> Result<Vec<u8>, Fail> {
+    let mut text = Vec::new(alloc);
+    for piece in pieces {
+        text.extend_from_slice(piece)?;
+    }
+    Ok(text)
+}
+
+#[test]
+fn blobs_are_pushed_and_pulled_however_the_input_is_cut(rt: HostRuntime) -> Result<(), Fail> {
+    let alloc = rt.alloc();
+    let input = joined(alloc, &[PULL, PUSH, PULL, PUSH, PULL, PULL])?;
+    let output = joined(alloc, &[UNKNOWN, CREATED, PULLED, CREATED, PULLED, PULLED])?;
+    for cut in [1, 2, 100, 65_536] {
+        let (status, said) = plain(alloc, &input, cut)?;
+        assert_eq!(rt; status, 0, "pieces of {cut}");
+        assert_eq!(rt; said.as_slice(), output.as_slice());
+    }
+    Ok(())
+}
+
+#[test]
+fn each_request_has_its_answer(rt: HostRuntime) -> Result<(), Fail> {
+    let alloc = rt.alloc();
+    let cases: [(&[u8], u8, &[u8]); 14] = [
+        (b"", 0, b""),
+        (PULL, 0, UNKNOWN),
+        // the empty blob
+        (
+            b"POST /v2/library/a/blobs/uploads/?digest=sha256:e3b0c44298fc1c149afbf4c8996fb92427ae41e4649b934ca495991b7852b855 HTTP/1.1\r\n\r\nGET /v2/library/b/c/blobs/sha256:e3b0c44298fc1c149afbf4c8996fb92427ae41e4649b934ca495991b7852b855 HTTP/1.1\r\nConnection: Close\r\n\r\nGET",
+            0,
+            b"HTTP/1.1 201 Created\r\nContent-Length: 0\r\nDocker-Content-Digest: sha256:e3b0c44298fc1c149afbf4c8996fb92427ae41e4649b934ca495991b7852b855\r\nLocation: /v2/library/a/blobs/sha256:e3b0c44298fc1c149afbf4c8996fb92427ae41e4649b934ca495991b7852b855\r\n\r\nHTTP/1.1 200 OK\r\nConnection: close\r\nContent-Length: 0\r\nContent-Type: application/octet-stream\r\nDocker-Content-Digest: sha256:e3b0c44298fc1c149afbf4c8996fb92427ae41e4649b934ca495991b7852b855\r\n\r\n",
+        ),
+        // another digest than the body's
+        (
+            b"POST /v2/library/a/blobs/uploads/?digest=sha256:e3b0c44298fc1c149afbf4c8996fb92427ae41e4649b934ca495991b7852b855 HTTP/1.1\r\nContent-Length: 3\r\n\r\nabc",
+            0,
+            b"HTTP/1.1 400 Bad Request\r\nContent-Length: 158\r\nContent-Type: application/json\r\n\r\n{\"errors\":[{\"code\":\"DIGEST_INVALID\",\"detail\":{\"found\":\"sha256:ba7816bf8f01cfea414140de5dae2223b00361a396177a9cb410ff61f20015ad\"},\"message\":\"digest invalid\"}]}",
+        ),
+        // what isn't served closes, and what stands behind it is not read
+        (
+            b"GET /v2/ HTTP/1.1\r\n\r\nGET /v2/ HTTP/1.1\r\n\r\n",
+            0,
+            UNSUPPORTED,
+        ),
+        (
+            b"GET /v2/other/a/blobs/sha256:ba7816bf8f01cfea414140de5dae2223b00361a396177a9cb410ff61f20015ad HTTP/1.1\r\n\r\n",
+            0,
+            UNSUPPORTED,
+        ),
+        (
+            b"POST /v2/library/a/blobs/uploads/?digest=sha256:ba7816bf8f01cfea414140de5dae2223b00361a396177a9cb410ff61f20015ad HTTP/1.1\r\nTransfer-Encoding: chunked\r\n\r\n3\r\nabc\r\n0\r\n\r\n",
+            0,
+            UNSUPPORTED,
+        ),
+        (
+            b"POST /v2/library/a/blobs/uploads/?digest=sha256:ba7816bf8f01cfea414140de5dae2223b00361a396177a9cb410ff61f20015ad HTTP/1.1\r\nContent-Length: 65537\r\n\r\n",
+            0,
+            UNSUPPORTED,
+        ),
+        // cut short
+        (b"GET /v2/ HTTP/1.1\r\n", 11, b""),
+        (
+            b"POST /v2/library/a/blobs/uploads/?digest=sha256:ba7816bf8f01cfea414140de5dae2223b00361a396177a9cb410ff61f20015ad HTTP/1.1\r\nContent-Length: 3\r\n\r\nab",
+            11,
+            b"",
+        ),
+        // malformed
+        (b"\x16\x03\x01", 11, b""),
+        (
+            b"GET /v2/ HTTP/1.1\r\nContent-Length: 1\r\nContent-Length: 2\r\n\r\n",
+            11,
+            b"",
+        ),
+        (b"GET /v2/ HTTP/1.1\r\nContent-Length: 01\r\n\r\n", 11, b""),
+        (
+            b"GET /v2/ HTTP/1.1\r\nContent-Length: 0\r\nTransfer-Encoding: chunked\r\n\r\n",
+            11,
+            b"",
+        ),
+    ];
+    for (input, status, output) in cases {
+        let (ended, said) = plain(alloc, input, 65_536)?;
+        assert_eq!(rt; ended, status);
+        assert_eq!(rt; said.as_slice(), output);
+    }
+    Ok(())
+}
+
+#[test]
+fn a_head_above_its_limits_ends_the_talk(rt: HostRuntime) -> Result<(), Fail> {
+    let alloc = rt.alloc();
+    for (headers, status) in [(100, 0), (101, 11)] {
+        let mut input = joined(alloc, &[b"GET /v2/ HTTP/1.1\r\n"])?;
+        for _ in 0..headers {
+            input.extend_from_slice(b"a: b\r\n")?;
+        }
+        input.extend_from_slice(b"\r\n")?;
+        let (ended, _said) = plain(alloc, &input, 65_536)?;
+        assert_eq!(rt; ended, status, "{headers} headers");
+    }
+    Ok(())
+}
+
+#[test]
+fn each_storage_call_that_fails_is_answered_and_the_talk_goes_on(
+    rt: HostRuntime,
+) -> Result<(), Fail> {
+    let alloc = rt.alloc();
+    let input = joined(alloc, &[PUSH, PUSH, PULL, PULL])?;
+    let cases: [(u64, u64, u64, [&'static [u8]; 4]); 6] = [
+        (1, 0, 0, [STORAGE, CREATED, PULLED, PULLED]),
+        (2, 0, 0, [STORAGE, CREATED, PULLED, PULLED]),
+        (5, 0, 0, [CREATED, CREATED, STORAGE, PULLED]),
+        (6, 0, 0, [CREATED, CREATED, PULLED, STORAGE]),
+        (0, 1, 0, [STORAGE, STORAGE, UNKNOWN, UNKNOWN]),
+        (0, 0, 1, [CREATED, CREATED, STORAGE, STORAGE]),
+    ];
+    for (call, append, read, answers) in cases {
+        let store = MemStore::with_scripts(
+            alloc,
+            vec![in alloc; call]?,
+            vec![in alloc; append]?,
+            vec![in alloc; read]?,
+        );
+        let (status, said) = talk(
+            alloc,
+            &input,
+            65_536,
+            Vec::new(alloc),
+            Vec::new(alloc),
+            store,
+        )?;
+        assert_eq!(rt; status, 0, "call {call}, append {append}, read {read}");
+        assert_eq!(rt; said.as_slice(), joined(alloc, &answers)?.as_slice());
+    }
+    Ok(())
+}
+
+#[test]
+fn a_read_or_a_write_that_fails_ends_the_talk(rt: HostRuntime) -> Result<(), Fail> {
+    let alloc = rt.alloc();
+    let input = joined(alloc, &[PUSH, PULL])?;
+    let cases: [(u64, u64, u8, &[u8]); 4] = [
+        (1, 0, 3, b""),
+        (2, 0, 3, b""),
+        (0, 1, 4, b""),
+        (0, 2, 4, CREATED),
+    ];
+    for (read, write, status, output) in cases {
+        let store = MemStore::new(alloc, Vec::new(alloc));
+        let reads = vec![in alloc; read]?;
+        let writes = vec![in alloc; write]?;
+        let (ended, said) = talk(alloc, &input, 100, reads, writes, store)?;
+        assert_eq!(rt; ended, status, "read {read}, write {write}");
+        assert_eq!(rt; said.as_slice(), output);
+    }
+    Ok(())
+}
+
+#[test]
+fn other_words_are_answered_with_usage(rt: HostRuntime) -> Result<(), Fail> {
+    let alloc = rt.alloc();
+    let words = vec![in alloc; Text::new(alloc, b"talk")?, Text::new(alloc, b"talk")?]?;
+    for count in [0, 2] {
+        let mut source = MemSource::new(Vec::new(alloc), Vec::new(alloc), Vec::new(alloc));
+        let mut sink = MemSink::new(alloc, 100, Vec::new(alloc))?;
+        let store = MemStore::new(alloc, Vec::new(alloc));
+        let ended = run(
+            alloc,
+            &words[..count],
+            &mut StepClock::new(5, 1),
+            &mut source,
+            &mut sink,
+            store,
+        );
+        assert_eq!(rt; ended.status, 2);
+        assert_eq!(rt; sink.bytes(), b"usage\n".as_slice());
+    }
+    Ok(())
+}
