@@ -29,7 +29,7 @@ pub record Moment : Type 0 where
 abbrev pub now_of : Option Contents → ℕ → List Pushed → Option (List ℕ) → Bool → Option (List ℕ) → Moment
 now_of contents faults pushed left ended held = record { contents = contents; faults = faults; pushed = pushed; left = left; ended = ended; held = held }
 
--- each of these blobs is held with bytes of its digest, where no removal was lapsing at the start
+-- something is held under the digest of each of these blobs, where no removal was lapsing at the start
 abbrev pub KeepsPushed : Option Contents → Option Contents → List Pushed → Type 0
 KeepsPushed start now pushed = IfSome start (λ c. c.lapsing ≡ [] → IfSome now (λ c'. (p : Pushed) → Contains pushed p → IsHeld c' p.digest))
 

@@ -15,7 +15,7 @@ mod tests;
 mod whole;
 
 use crate::run::run;
-use hb_outside::{StdClock, StdSink, StdSource};
+use hb_outside::{Sink, StdClock, StdSink, StdSource};
 use hb_store::MemStore;
 use hb_text::{Memory, Text};
 use std::alloc::Global;
@@ -37,12 +37,18 @@ fn words(rt: &HostRuntime) -> io::Result<Vec<Text>> {
 
 fn main(rt: HostRuntime) -> ExitCode {
     let alloc = rt.alloc();
-    let Ok(words) = words(&rt) else {
-        return ExitCode::from(7);
+    let mut out = StdSink::new(io::writer(&rt));
+    let words = match words(&rt) {
+        Ok(words) => words,
+        // No word that isn't UTF-8 is known: these are answered as no words are.
+        Err(fault) if fault.kind() == io::ErrorKind::InvalidData => Vec::new(alloc),
+        Err(_) => {
+            let _written = out.write(b"memory\n");
+            return ExitCode::from(7);
+        }
     };
     let mut clock = StdClock::new(&rt);
     let mut input = StdSource::new(rt.reader());
-    let mut out = StdSink::new(io::writer(&rt));
     let store = MemStore::new(alloc, Vec::new(alloc));
     let ended = run(alloc, &words, &mut clock, &mut input, &mut out, store);
     ExitCode::from(ended.status)

@@ -166,9 +166,11 @@ fn each_storage_call_that_fails_is_answered_and_the_talk_goes_on(
 ) -> Result<(), Fail> {
     let alloc = rt.alloc();
     let input = joined(alloc, &[PUSH, PUSH, PULL, PULL])?;
-    let cases: [(u64, u64, u64, [&'static [u8]; 4]); 6] = [
+    let cases: [(u64, u64, u64, [&'static [u8]; 4]); 8] = [
         (1, 0, 0, [STORAGE, CREATED, PULLED, PULLED]),
         (2, 0, 0, [STORAGE, CREATED, PULLED, PULLED]),
+        (3, 0, 0, [CREATED, STORAGE, PULLED, PULLED]),
+        (4, 0, 0, [CREATED, STORAGE, PULLED, PULLED]),
         (5, 0, 0, [CREATED, CREATED, STORAGE, PULLED]),
         (6, 0, 0, [CREATED, CREATED, PULLED, STORAGE]),
         (0, 1, 0, [STORAGE, STORAGE, UNKNOWN, UNKNOWN]),
@@ -199,11 +201,14 @@ fn each_storage_call_that_fails_is_answered_and_the_talk_goes_on(
 fn a_read_or_a_write_that_fails_ends_the_talk(rt: HostRuntime) -> Result<(), Fail> {
     let alloc = rt.alloc();
     let input = joined(alloc, &[PUSH, PULL])?;
-    let cases: [(u64, u64, u8, &[u8]); 4] = [
-        (1, 0, 3, b""),
-        (2, 0, 3, b""),
-        (0, 1, 4, b""),
-        (0, 2, 4, CREATED),
+    // The push is whole in the second piece of three, and the fourth read meets the end.
+    let cases: [(u64, u64, u8, &[&'static [u8]]); 6] = [
+        (1, 0, 3, &[]),
+        (2, 0, 3, &[]),
+        (3, 0, 3, &[CREATED]),
+        (4, 0, 3, &[CREATED, PULLED]),
+        (0, 1, 4, &[]),
+        (0, 2, 4, &[CREATED]),
     ];
     for (read, write, status, output) in cases {
         let store = MemStore::new(alloc, Vec::new(alloc));
@@ -211,7 +216,7 @@ fn a_read_or_a_write_that_fails_ends_the_talk(rt: HostRuntime) -> Result<(), Fai
         let writes = vec![in alloc; write]?;
         let (ended, said) = talk(alloc, &input, 100, reads, writes, store)?;
         assert_eq!(rt; ended, status, "read {read}, write {write}");
-        assert_eq!(rt; said.as_slice(), output);
+        assert_eq!(rt; said.as_slice(), joined(alloc, output)?.as_slice());
     }
     Ok(())
 }
