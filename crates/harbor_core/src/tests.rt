@@ -64,6 +64,18 @@ fn joined(alloc: Global, pieces: &[&'static [u8]]) -> Result<Vec<u8>, Fail> {
     Ok(text)
 }
 
+// With ample memory neither answer is want of it.
+#[test]
+fn a_blob_is_pushed_and_pulled(rt: HostRuntime) -> Result<(), Fail> {
+    let alloc = rt.alloc();
+    let input = joined(alloc, &[PUSH, PULL])?;
+    let output = joined(alloc, &[CREATED, PULLED])?;
+    let (status, said) = plain(alloc, &input, 65_536)?;
+    assert_eq!(rt; status, 0);
+    assert_eq!(rt; said.as_slice(), output.as_slice());
+    Ok(())
+}
+
 #[test]
 fn blobs_are_pushed_and_pulled_however_the_input_is_cut(rt: HostRuntime) -> Result<(), Fail> {
     let alloc = rt.alloc();
