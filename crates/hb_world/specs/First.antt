@@ -1,8 +1,9 @@
 -- What a world knows of the blobs that were pushed, and what its calls leave of a store.
-use Rattle.std.specs.Prelude.{◌≡◌, ℕ, List, [], Contains, Some, None, IfSome, IsSome, IsSomeAnd}
+use Rattle.std.specs.Prelude.{◌≡◌, ◌≤◌, ℕ, List, [], Contains, Some, None, IfSome, IsSome, IsSomeAnd}
 use Rattle.std.specs.declared.option.Option.{Option}
 use Rattle.hb_text.specs.Digests.{digest_of}
 use Rattle.hb_text.specs.declared.digests.Digest.{Digest}
+use Rattle.hb_store.specs.Calls.{Becomes, Unchanged}
 use Rattle.hb_store.specs.Contents.{Contents, bytes_of}
 use Rattle.hb_world.specs.declared.first.Pushed.{Pushed}
 
@@ -36,3 +37,7 @@ Stands (Some c) new = IsSomeAnd new (StillHolds c)
 -- the digest holds these bytes, where that is told
 abbrev pub Holds : Option Contents → Digest → List ℕ → Type 0
 Holds contents d bytes = IfSome contents (λ c. bytes_of c d ≡ Some bytes)
+
+-- one call of the store changed nothing but what time does to it, at a moment that is not before this one
+abbrev pub OnlyAsked : ℕ → Option Contents → Option Contents → Type 0
+OnlyAsked now old new = (moment : ℕ) × (now ≤ moment) × Becomes old moment Unchanged new

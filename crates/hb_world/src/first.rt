@@ -3,9 +3,10 @@ ghost use Rattle.std.specs.Prelude.{◌≡◌, ◌≢◌, ◌↔◌, ◌≤◌, 
 ghost use Rattle.hb_text.specs.Digests.{digest_of};
 ghost use Rattle.hb_text.specs.Names.{project_of};
 ghost use Rattle.hb_store.specs.Causes.{StorageRose};
+ghost use Rattle.hb_store.specs.Calls.{Becomes, Unchanged};
 ghost use Rattle.hb_store.specs.Contents.{bytes_of};
 ghost use Rattle.hb_outside.specs.Causes.{Rose};
-ghost use Rattle.hb_world.specs.First.{Holds, HoldsPushed, IsTrueTo, Stands};
+ghost use Rattle.hb_world.specs.First.{Holds, HoldsPushed, IsTrueTo, OnlyAsked, Stands};
 
 use hb_base::Memory;
 use hb_store::{Reader, Stage, Store, StoreFault};
@@ -188,6 +189,7 @@ fn open_held<S: Store>(
     requires { IfSome (S.contents store.old) (λ c. IsTrueTo c digest.now) }
     ensures opened { IfOk result (λ o. (o.digest ≡ digest.now) × (o.size ≡ S.Reader.left o.reader) × (o.media ≡ None)) }
     ensures bytes { IfSome (S.contents store.old) (λ _. IfOk result (λ o. IsSomeAnd (S.Reader.bytes o.reader) (λ b. (digest_of b ≡ digest.now) × (length b ≡ o.size)))) }
+    ensures unchanged { Becomes (S.contents store.old) now Unchanged (S.contents store.new) }
     ensures stands { Stands (S.contents store.old) (S.contents store.new) }
     ensures known { ¬ (IsErrOf result Refusal.BlobUnknown) }
     ensures later { S.faults store.old ≤ S.faults store.new }
@@ -288,6 +290,8 @@ impl<S: Store> World<S> {
         ensures unknown { IsErrOf result Refusal.BlobUnknown → ¬ Contains self.old.pushed (record { project = project_of name.now; digest = digest.now }) }
         ensures known { ¬ (IsErrOf result Refusal.BlobUnknown) → Contains self.old.pushed (record { project = project_of name.now; digest = digest.now }) }
         ensures pushed { self.new.pushed ≡ self.old.pushed }
+        ensures unasked { IsErrOf result Refusal.BlobUnknown → self.new.store ≡ self.old.store }
+        ensures unchanged { ¬ (IsErrOf result Refusal.BlobUnknown) → OnlyAsked now (S.contents self.old.store) (S.contents self.new.store) }
         ensures stands { Stands (S.contents self.old.store) (S.contents self.new.store) }
         ensures later { S.faults self.old.store ≤ S.faults self.new.store }
         ensures storage { IsErrOf result Refusal.Storage → Rose (S.faults self.old.store) (S.faults self.new.store) }
