@@ -16,7 +16,8 @@ use Rattle.harbor_core.specs.Arrived.{Arrived}
 use Rattle.harbor_core.specs.Answers.{answer_text}
 use Rattle.harbor_core.specs.FirstRequests.{Ends, Closes, IsServed, Serves}
 use Rattle.harbor_core.specs.Fronts.{IsBad, WholeAt, request_at}
-use Rattle.harbor_core.specs.Talks.{Moment, now_of, BeginWith, Progress, Talked, KeepsPushed, GoesOn, ReadsOn, work_left}
+use Rattle.harbor_core.specs.Progress.{Progress, GoesOn, ReadsOn, work_left}
+use Rattle.harbor_core.specs.Talks.{Moment, now_of, BeginWith, Talked, KeepsPushed}
 use Rattle.harbor_core.specs.Turns.{Turn, Turns, Fits, blob, pushed_by, pushed_in, requests_of, turns_text}
 use Rattle.harbor_core.specs.declared.answers.Answer.{Answer}
 use Rattle.harbor_core.specs.declared.answers.Answer.TheVariants.{Created, WrongDigest, Content, BlobUnknown, Unsupported, StorageFailed, OutOfMemory}

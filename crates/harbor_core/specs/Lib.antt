@@ -3,6 +3,7 @@ pub mod Arrived
 pub mod FirstRequests
 pub mod Fronts
 pub mod Incoming
+pub mod Progress
 pub mod Runs
 pub mod Talks
 pub mod Turns

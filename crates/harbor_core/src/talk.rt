@@ -5,7 +5,8 @@ ghost use Rattle.httparse.specs.Grammar.{RequestHead};
 ghost use Rattle.hb_outside.specs.Causes.{Rose};
 ghost use Rattle.hb_store.specs.Causes.{StorageRose};
 ghost use Rattle.harbor_core.specs.Fronts.{WholeAt};
-ghost use Rattle.harbor_core.specs.Talks.{Moment, GoesOn, Progress, ReadsOn, Talked, now_of, work_left};
+ghost use Rattle.harbor_core.specs.Progress.{GoesOn, Progress, ReadsOn, work_left};
+ghost use Rattle.harbor_core.specs.Talks.{Moment, Talked, now_of};
 ghost use Rattle.harbor_core.specs.Turns.{Turn};
 
 use crate::ends::{TalkEnd, Turned};

@@ -1,6 +1,7 @@
 use Rattle.std.proofs.Common.{ℕ, ◌≤◌, List, []}
 use Rattle.hb_store.specs.Causes.{StorageRose}
-use Rattle.harbor_core.specs.Talks.{Progress, now_of, work_left}
+use Rattle.harbor_core.specs.Progress.{Progress, work_left}
+use Rattle.harbor_core.specs.Talks.{now_of}
 use Rattle.harbor_core.specs.Turns.{Turn}
 use Rattle.harbor_core.proofs.talk.talk.Given as goal
 
