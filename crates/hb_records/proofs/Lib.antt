@@ -1,0 +1,2 @@
+pub mod KeyOrders
+mod PatternCuts
