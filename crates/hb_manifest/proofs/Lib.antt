@@ -1,0 +1,4 @@
+pub mod DigestTexts
+pub mod JsonLists
+pub mod Listing
+pub mod Once

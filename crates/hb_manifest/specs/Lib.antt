@@ -1,0 +1,6 @@
+pub mod Descriptors
+pub mod Forms
+pub mod Json
+pub mod Lists
+pub mod MediaTypes
+pub mod Parts
