@@ -19,8 +19,8 @@ pub named : (text : List ℕ) (d : Digest) → IsDigest d → text ≡ digest_te
 named text d is written =
     let made : List ℕ → Digest = λ bytes. record { 0 = bytes } in
     let decoded : decode_sized (drop 7 text) 32 ≡ Ok d.0 =
-        ap (λ t. decode_sized (drop 7 t) 32) written
-        ∙ decode_sized-twice (encode_lower d.0) 32 (length-hex d is) ∙ decode_of-encode_lower d.0 is.bytes in
+    ap (λ t. decode_sized (drop 7 t) 32) written
+    ∙ decode_sized-twice (encode_lower d.0) 32 (length-hex d is) ∙ decode_of-encode_lower d.0 is.bytes in
     ap (λ r. option_and_then (λ bytes. when_written text (made bytes)) (result_ok r)) decoded
     ∙ ap (λ b. if b then Some d else None) ((bytes_eq-Decides (digest_text d) text).1 (sym written))
 
@@ -49,7 +49,7 @@ names text d e =
     let made : List ℕ → Digest = λ bytes. record { 0 = bytes } in
     option_and_then_some (λ bytes. when_written text (made bytes)) (result_ok (decode_sized (drop 7 text) 32)) d e
     (λ bytes decoded written.
-        let is = cond_some (bytes_eq (digest_text (made bytes)) text) (made bytes) d written in
-        let size = sized (drop 7 text) bytes 32 (ok_is _ bytes decoded) in
-        let text_is = sym ((bytes_eq-Decides (digest_text (made bytes)) text).0 is.0) in
-        (text_is ∙ ap digest_text is.1, rw (← is.1) (record { long = size.0; bytes = size.1 })))
+    let is = cond_some (bytes_eq (digest_text (made bytes)) text) (made bytes) d written in
+    let size = sized (drop 7 text) bytes 32 (ok_is _ bytes decoded) in
+    let text_is = sym ((bytes_eq-Decides (digest_text (made bytes)) text).0 is.0) in
+    (text_is ∙ ap digest_text is.1, rw (← is.1) (record { long = size.0; bytes = size.1 })))

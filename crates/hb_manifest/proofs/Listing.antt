@@ -55,8 +55,8 @@ pub first-here : (p : Data → Bool) (vs : List Value) (i : ℕ) (v : Value) →
     → i + position_or_len p (map view (drop i vs)) ≡ position_or_len p (map view vs) → Some i ≡ position p (map view vs)
 first-here p vs i v less is passes reached =
     let none_between : position_or_len p (map view (drop i vs)) ≡ 0 =
-        ap (λ xs. position_or_len p (map view xs)) (next vs i v less) ∙ ap (λ x. position_or_len p (view x ∷ map view (drop (i + 1) vs))) (sym is)
-        ∙ ap (λ b. cond (not b) (1 + position_or_len p (map view (drop (i + 1) vs))) 0) passes in
+    ap (λ xs. position_or_len p (map view xs)) (next vs i v less) ∙ ap (λ x. position_or_len p (view x ∷ map view (drop (i + 1) vs))) (sym is)
+    ∙ ap (λ b. cond (not b) (1 + position_or_len p (map view (drop (i + 1) vs))) 0) passes in
     let here : position_or_len p (map view vs) ≡ i = omega (arith, reached, none_between) in
     let long : length (map view vs) ≡ length vs = length-map vs view in
     sym (ap (λ n. cond (nat_lt n (length (map view vs))) (Some n) None) here ∙ ap (λ b. cond b (Some i) None) (lt-ltb i (length (map view vs)) (omega arith)))
@@ -74,6 +74,6 @@ pub first-later : (p : Data → Bool) (vs : List Value) (i : ℕ) (v : Value) �
     → i + 1 + position_or_len p (map view (drop (i + 1) vs)) ≡ position_or_len p (map view vs)
 first-later p vs i v less is fails reached =
     let next : position_or_len p (map view (drop i vs)) ≡ 1 + position_or_len p (map view (drop (i + 1) vs)) =
-        ap (λ xs. position_or_len p (map view xs)) (next vs i v less) ∙ ap (λ x. position_or_len p (view x ∷ map view (drop (i + 1) vs))) (sym is)
-        ∙ ap (λ b. cond (not b) (1 + position_or_len p (map view (drop (i + 1) vs))) 0) fails in
+    ap (λ xs. position_or_len p (map view xs)) (next vs i v less) ∙ ap (λ x. position_or_len p (view x ∷ map view (drop (i + 1) vs))) (sym is)
+    ∙ ap (λ b. cond (not b) (1 + position_or_len p (map view (drop (i + 1) vs))) 0) fails in
     omega (arith, reached, next)

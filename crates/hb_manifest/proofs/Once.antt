@@ -19,7 +19,6 @@ same-Decides a b =
 same-sym : (a b : Digest) → same_digest a b ≡ same_digest b a
 same-sym a b = one_answer (same_digest a b) (same_digest b a) (same-Decides a b) (λ e. sym ((same-Decides b a).0 e), λ e. (same-Decides b a).1 (sym e))
 
-
 -- Whether a digest is among them isn't changed by leaving out another.
 kept_at : (d x e : Digest) (es : List Digest) (t : Bool) → same_digest x e ≡ t → same_digest d x ≡ false
     → list_any (same_digest d) (filter (λ e. not (same_digest x e)) es) ≡ list_any (same_digest d) es

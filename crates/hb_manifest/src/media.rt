@@ -8,13 +8,19 @@ use crate::json::text_at;
 use serde_json::Value;
 
 const OCI_IMAGE: &[u8] = b"application/vnd.oci.image.manifest.v1+json";
+
 const DOCKER_IMAGE: &[u8] = b"application/vnd.docker.distribution.manifest.v2+json";
+
 const OCI_INDEX: &[u8] = b"application/vnd.oci.image.index.v1+json";
+
 const DOCKER_INDEX: &[u8] = b"application/vnd.docker.distribution.manifest.list.v2+json";
 
 const OCI_LAYER: &[u8] = b"application/vnd.oci.image.layer.nondistributable.v1.tar";
+
 const OCI_LAYER_GZIP: &[u8] = b"application/vnd.oci.image.layer.nondistributable.v1.tar+gzip";
+
 const OCI_LAYER_ZSTD: &[u8] = b"application/vnd.oci.image.layer.nondistributable.v1.tar+zstd";
+
 const DOCKER_LAYER: &[u8] = b"application/vnd.docker.image.rootfs.foreign.diff.tar.gzip";
 
 /// What a manifest describes.
@@ -44,7 +50,10 @@ fn blanks_in_front(text: &[u8]) -> usize
 fn blanks_behind(text: &[u8]) -> usize
     ensures { result ≡ suffix_len is_blank text.now }
 {
-    text.iter().rev().take_while(|byte| is_blank(**byte)).count()
+    text.iter()
+        .rev()
+        .take_while(|byte| is_blank(**byte))
+        .count()
 }
 
 /// The place of the first `;`, or the length of the text where there is none.
@@ -114,7 +123,10 @@ pub(crate) fn kind_of(media: &[u8]) -> Option<Kind>
 fn is_nondistributable_type(media: &[u8]) -> bool
     ensures { result ≡ is_among nondistributable_types media.now }
 {
-    media == OCI_LAYER || media == OCI_LAYER_GZIP || media == OCI_LAYER_ZSTD || media == DOCKER_LAYER
+    media == OCI_LAYER
+        || media == OCI_LAYER_GZIP
+        || media == OCI_LAYER_ZSTD
+        || media == DOCKER_LAYER
 }
 
 /// Whether a layer says that it may not be distributed.

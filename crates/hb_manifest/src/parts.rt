@@ -26,7 +26,9 @@ pub(crate) enum Parts<'a> {
         layers: &'a [Value],
     },
     /// An index's.
-    Index { manifests: &'a [Value] },
+    Index {
+        manifests: &'a [Value],
+    },
 }
 
 /// What an object lists as a manifest of this kind. `None` where what holds it isn't there.
@@ -140,7 +142,10 @@ pub(crate) fn children(alloc: Global, parts: Parts) -> Result<DigestList, Memory
     ensures { IfOk result (λ made. made ≡ children (kind_in parts.entry) (all_of parts.entry)) }
 {
     match parts {
-        Parts::Image { config: _, layers: _ } => Ok(Listed::new(alloc)),
+        Parts::Image {
+            config: _,
+            layers: _,
+        } => Ok(Listed::new(alloc)),
         Parts::Index { manifests } => digests(alloc, manifests),
     }
 }

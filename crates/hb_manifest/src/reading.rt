@@ -30,7 +30,11 @@ fn subject_of(object: &Value) -> Option<Digest>
 }
 
 /// A JSON object as a manifest, beside a Content-Type or without one.
-fn read_object(alloc: Global, header: Option<&[u8]>, object: &Value) -> Result<Manifest, ManifestFault>
+fn read_object(
+    alloc: Global,
+    header: Option<&[u8]>,
+    object: &Value,
+) -> Result<Manifest, ManifestFault>
     ensures ok { IfOk result (λ m. object_form (option_copied header.entry) (view object.now) ≡ Ok m) }
     ensures err { IfErr result (λ e. e ≢ ManifestFault.Memory → object_form (option_copied header.entry) (view object.now) ≡ Err e) }
 {
@@ -81,7 +85,11 @@ fn read_object(alloc: Global, header: Option<&[u8]>, object: &Value) -> Result<M
 ///
 /// `Memory` may come wherever memory is wanting. A `subject` that is no descriptor is ignored, and so is
 /// every member that isn't named here.
-pub fn read_manifest(alloc: Global, media: Option<&[u8]>, bytes: &[u8]) -> Result<Manifest, ManifestFault>
+pub fn read_manifest(
+    alloc: Global,
+    media: Option<&[u8]>,
+    bytes: &[u8],
+) -> Result<Manifest, ManifestFault>
     ensures ok { IfOk result (λ m. manifest_form (option_copied media.entry) bytes.now ≡ Ok m) }
     ensures err { IfErr result (λ e. e ≢ ManifestFault.Memory → manifest_form (option_copied media.entry) bytes.now ≡ Err e) }
 {

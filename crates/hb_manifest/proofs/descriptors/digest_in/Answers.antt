@@ -1,4 +1,4 @@
-use Rattle.std.proofs.Common.{ ◌≡◌, ◌≢◌, ◌∙◌, List, ℕ, Option, Some, None, refl, sym, ap}
+use Rattle.std.proofs.Common.{◌≡◌, ◌≢◌, ◌∙◌, List, ℕ, Option, Some, None, refl, sym, ap}
 use Rattle.hb_text.specs.declared.digests.Digest.{Digest}
 use Rattle.hb_text.specs.Digests.{digest_text, IsDigest}
 use Rattle.hb_manifest.specs.Descriptors.{digest_in}

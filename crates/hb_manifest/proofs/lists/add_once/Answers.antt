@@ -9,13 +9,13 @@ pub returns-then-has : goal.returns-then-has
 returns-then-has c = λ all was.
     let among = sym c.has.ensures ∙ c.if-has.true in
     was ∙ sym (once-more all c.args.digest ∙ ap (λ b. cond b (each_once all) (each_once all ++ c.args.digest ∷ []))
-        (ap (list_any (same_digest c.args.digest)) (sym was ∙ sym c.as_slice.ensures) ∙ among))
+    (ap (list_any (same_digest c.args.digest)) (sym was ∙ sym c.as_slice.ensures) ∙ among))
 
 pub returns : goal.returns
 returns c = on_ok_weaker c.push.result
     (λ pushed all was.
-        let among = sym c.has.ensures ∙ c.if-has.false in
-        pushed ∙ ap (λ ds. ds ++ c.args.digest ∷ []) was
-        ∙ sym (once-more all c.args.digest ∙ ap (λ b. cond b (each_once all) (each_once all ++ c.args.digest ∷ []))
-            (ap (list_any (same_digest c.args.digest)) (sym was ∙ sym c.as_slice.ensures) ∙ among)))
+    let among = sym c.has.ensures ∙ c.if-has.false in
+    pushed ∙ ap (λ ds. ds ++ c.args.digest ∷ []) was
+    ∙ sym (once-more all c.args.digest ∙ ap (λ b. cond b (each_once all) (each_once all ++ c.args.digest ∷ []))
+    (ap (list_any (same_digest c.args.digest)) (sym was ∙ sym c.as_slice.ensures) ∙ among)))
     c.push.ensures.ok

@@ -18,9 +18,9 @@ layers-preserved c =
       | then-not-is_nondistributable+in_ok-add_descriptor-2 w ↦
           w.made-is ∙ w.in_ok-add_descriptor-2.ensures before c.layers.invariant
           ∙ ap each_once (needed-more (view c.args.config.now) c.args.layers.now c.layers.layer-index c.layer-item.result c.layers-test.true c.layer-item.is
-              (sym c.is_nondistributable.ensures ∙ w.if-not-is_nondistributable.true))
+          (sym c.is_nondistributable.ensures ∙ w.if-not-is_nondistributable.true))
       | else-not-is_nondistributable w ↦
           w.made-is ∙ c.layers.invariant
           ∙ ap (λ ds. each_once (filter_map descriptor ds)) (needed-same (view c.args.config.now) c.args.layers.now c.layers.layer-index c.layer-item.result c.layers-test.true c.layer-item.is
-              (sym c.is_nondistributable.ensures ∙ w.if-not-is_nondistributable.false))
+          (sym c.is_nondistributable.ensures ∙ w.if-not-is_nondistributable.false))
     ]
