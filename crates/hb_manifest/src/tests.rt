@@ -15,17 +15,42 @@ const DOCKER_IMAGE: &str = "application/vnd.docker.distribution.manifest.v2+json
 
 const DOCKER_LIST: &str = "application/vnd.docker.distribution.manifest.list.v2+json";
 
-/// Descriptors of `{}`, of `abc` and of no byte.
+const BAD_AT_0: Option<ManifestFault> = Some(ManifestFault::BadDescriptor { place: 0 });
+
+const BAD_AT_1: Option<ManifestFault> = Some(ManifestFault::BadDescriptor { place: 1 });
+
+const BAD_AT_2: Option<ManifestFault> = Some(ManifestFault::BadDescriptor { place: 2 });
+
+const BAD_AT_3: Option<ManifestFault> = Some(ManifestFault::BadDescriptor { place: 3 });
+
+const BAD_AT_999: Option<ManifestFault> = Some(ManifestFault::BadDescriptor { place: 999 });
+
+// Descriptors of `{}` and of `abc`, and what stands around the parts of manifests.
 const OBJECT: &str =
-    r#"{"mediaType":"application/vnd.oci.image.config.v1+json","digest":"sha256:44136fa355b3678a1146ad16f7e8649e94fb4fc21fe77e8310c060f61caaff8a","size":2}"#;
+    r#"{"digest":"sha256:44136fa355b3678a1146ad16f7e8649e94fb4fc21fe77e8310c060f61caaff8a","size":2}"#;
 
 const ABC: &str =
-    r#"{"mediaType":"application/vnd.oci.image.layer.v1.tar","digest":"sha256:ba7816bf8f01cfea414140de5dae2223b00361a396177a9cb410ff61f20015ad","size":3}"#;
+    r#"{"digest":"sha256:ba7816bf8f01cfea414140de5dae2223b00361a396177a9cb410ff61f20015ad","size":3}"#;
 
-const EMPTY: &str =
-    r#"{"digest":"sha256:e3b0c44298fc1c149afbf4c8996fb92427ae41e4649b934ca495991b7852b855","size":0,"urls":["https://a/b"]}"#;
+const LAYERS: &str =
+    r#"{"schemaVersion":2,"config":{"digest":"sha256:44136fa355b3678a1146ad16f7e8649e94fb4fc21fe77e8310c060f61caaff8a","size":2},"layers":["#;
 
-/// The answer to bytes that aren't a manifest.
+const CONFIG: &str = r#"{"schemaVersion":2,"layers":[],"config":"#;
+
+const MANIFESTS: &str = r#"{"schemaVersion":2,"manifests":["#;
+
+const SUBJECT: &str =
+    r#"{"schemaVersion":2,"config":{"digest":"sha256:44136fa355b3678a1146ad16f7e8649e94fb4fc21fe77e8310c060f61caaff8a","size":2},"layers":[],"manifests":[],"subject":"#;
+
+/// Three parts as one text.
+fn joined(alloc: Global, front: &str, part: &str, back: &str) -> Result<Vec<u8>, AllocError> {
+    let mut bytes = Vec::from_slice(alloc, front.as_bytes())?;
+    bytes.extend_from_slice(part.as_bytes())?;
+    bytes.extend_from_slice(back.as_bytes())?;
+    Ok(bytes)
+}
+
+/// Why bytes are refused, if they are.
 fn refusal(alloc: Global, media: Option<&[u8]>, bytes: &[u8]) -> Option<ManifestFault> {
     match read_manifest(alloc, media, bytes) {
         Ok(_) => None,
@@ -33,268 +58,353 @@ fn refusal(alloc: Global, media: Option<&[u8]>, bytes: &[u8]) -> Option<Manifest
     }
 }
 
-/// The answer to an image, of which what stands behind `{` is given.
-fn image_refusal(alloc: Global, rest: &str) -> Result<Option<ManifestFault>, AllocError> {
-    let text = format!(in alloc; "{{{rest}")?;
-    Ok(refusal(alloc, Some(IMAGE.as_bytes()), text.as_str().as_bytes()))
-}
-
-fn read(alloc: Global, media: &str, text: &str) -> Result<Manifest, ManifestFault> {
-    read_manifest(alloc, Some(media.as_bytes()), text.as_bytes())
-}
-
-fn image_of(alloc: Global, config: &str, layers: &str) -> Result<String, AllocError> {
-    format!(in alloc; "{{\"schemaVersion\":2,\"config\":{config},\"layers\":[{layers}]}}")
-}
-
-fn index_of(alloc: Global, manifests: &str) -> Result<String, AllocError> {
-    format!(in alloc; "{{\"schemaVersion\":2,\"manifests\":[{manifests}]}}")
-}
-
-#[test]
-fn whole_image(rt: HostRuntime) -> Result<(), Fail> {
-    let alloc = rt.alloc();
-    let text = format!(in alloc;
-        "{{\"schemaVersion\":2,\"mediaType\":\"{IMAGE}\",\"config\":{OBJECT},\"layers\":[{ABC},{EMPTY},{ABC},{OBJECT}],\"annotations\":{{\"a\":\"b\"}},\"other\":[1,null,true,{{}}]}}\n"
-    )?;
-    let manifest = read(alloc, IMAGE, text.as_str())?;
-    assert_eq!(rt; manifest.media.bytes(), IMAGE.as_bytes());
-    assert_eq!(rt;
-        manifest.refs.as_slice(),
-        [Digest::of(b"{}"), Digest::of(b"abc"), Digest::of(b"")].as_slice()
-    );
-    assert_eq!(rt; manifest.children.as_slice(), [].as_slice());
-    assert_eq!(rt; manifest.subject, None);
-    Ok(())
-}
-
-#[test]
-fn layers_that_may_not_be_distributed(rt: HostRuntime) -> Result<(), Fail> {
-    let alloc = rt.alloc();
-    let types = [
-        "application/vnd.oci.image.layer.nondistributable.v1.tar",
-        "application/vnd.oci.image.layer.nondistributable.v1.tar+gzip",
-        "application/vnd.oci.image.layer.nondistributable.v1.tar+zstd",
-        "application/vnd.docker.image.rootfs.foreign.diff.tar.gzip",
-    ];
-    for media in types {
-        let foreign = format!(in alloc;
-            "{{\"mediaType\":\"{media}\",\"digest\":\"sha256:e3b0c44298fc1c149afbf4c8996fb92427ae41e4649b934ca495991b7852b855\",\"size\":0}}"
-        )?;
-        let layers = format!(in alloc; "{foreign},{ABC},{foreign}")?;
-        let image = image_of(alloc, OBJECT, layers.as_str())?;
-        assert_eq!(rt;
-            read(alloc, DOCKER_IMAGE, image.as_str())?.refs.as_slice(),
-            [Digest::of(b"{}"), Digest::of(b"abc")].as_slice(),
-            "{media}"
-        );
-        // a config counts whatever it says, and a layer that is listed under another type too
-        let layers = format!(in alloc; "{foreign},{EMPTY}")?;
-        let image = image_of(alloc, foreign.as_str(), layers.as_str())?;
-        assert_eq!(rt;
-            read(alloc, IMAGE, image.as_str())?.refs.as_slice(),
-            [Digest::of(b"")].as_slice()
-        );
-        // in an index it is a manifest like others
-        let index = index_of(alloc, foreign.as_str())?;
-        assert_eq!(rt;
-            read(alloc, INDEX, index.as_str())?.children.as_slice(),
-            [Digest::of(b"")].as_slice()
-        );
+/// Why a text of three parts is refused, if it is.
+fn fault(alloc: Global, media: &str, front: &str, part: &str, back: &str) -> Option<ManifestFault> {
+    match joined(alloc, front, part, back) {
+        Ok(bytes) => refusal(alloc, Some(media.as_bytes()), bytes.as_slice()),
+        Err(_) => Some(ManifestFault::Memory),
     }
-    let other = format!(in alloc;
-        "{{\"mediaType\":\"application/vnd.oci.image.layer.nondistributable.v1.tar+GZIP\",\"digest\":\"sha256:e3b0c44298fc1c149afbf4c8996fb92427ae41e4649b934ca495991b7852b855\",\"size\":0}}"
-    )?;
-    let image = image_of(alloc, OBJECT, other.as_str())?;
-    assert_eq!(rt;
-        read(alloc, IMAGE, image.as_str())?.refs.as_slice(),
-        [Digest::of(b"{}"), Digest::of(b"")].as_slice()
-    );
-    Ok(())
 }
 
-#[test]
-fn whole_index(rt: HostRuntime) -> Result<(), Fail> {
-    let alloc = rt.alloc();
-    let manifests = format!(in alloc; "{ABC},{OBJECT},{ABC},{EMPTY},{OBJECT}")?;
-    let index = index_of(alloc, manifests.as_str())?;
-    for media in [INDEX, DOCKER_LIST] {
-        let manifest = read(alloc, media, index.as_str())?;
-        assert_eq!(rt; manifest.media.bytes(), media.as_bytes());
-        assert_eq!(rt; manifest.refs.as_slice(), [].as_slice());
-        assert_eq!(rt;
-            manifest.children.as_slice(),
-            [Digest::of(b"abc"), Digest::of(b"{}"), Digest::of(b"")].as_slice()
-        );
-        assert_eq!(rt; manifest.subject, None);
+/// The same without a Content-Type.
+fn own_fault(alloc: Global, front: &str, part: &str, back: &str) -> Option<ManifestFault> {
+    match joined(alloc, front, part, back) {
+        Ok(bytes) => refusal(alloc, None, bytes.as_slice()),
+        Err(_) => Some(ManifestFault::Memory),
     }
-    let none = index_of(alloc, "")?;
-    assert!(rt; read(alloc, INDEX, none.as_str())?.children.is_empty());
-    Ok(())
 }
 
+/// Whether a manifest is the one that is expected.
+fn is_same(
+    manifest: &Manifest,
+    media: &str,
+    refs: &[Digest],
+    children: &[Digest],
+    subject: Option<Digest>,
+) -> bool {
+    manifest.media.bytes() == media.as_bytes()
+        && manifest.refs.as_slice() == refs
+        && manifest.children.as_slice() == children
+        && manifest.subject == subject
+}
+
+/// Whether a text of three parts is read as an image with these references, of this media type.
+fn is_image(
+    alloc: Global,
+    media: &str,
+    front: &str,
+    part: &str,
+    back: &str,
+    refs: &[Digest],
+) -> bool {
+    match joined(alloc, front, part, back) {
+        Ok(bytes) => match read_manifest(alloc, Some(media.as_bytes()), bytes.as_slice()) {
+            Ok(manifest) => is_same(&manifest, media, refs, [].as_slice(), None),
+            Err(_) => false,
+        },
+        Err(_) => false,
+    }
+}
+
+/// Whether it is read as an index with these children.
+fn is_index(
+    alloc: Global,
+    media: &str,
+    front: &str,
+    part: &str,
+    back: &str,
+    children: &[Digest],
+) -> bool {
+    match joined(alloc, front, part, back) {
+        Ok(bytes) => match read_manifest(alloc, Some(media.as_bytes()), bytes.as_slice()) {
+            Ok(manifest) => is_same(&manifest, media, [].as_slice(), children, None),
+            Err(_) => false,
+        },
+        Err(_) => false,
+    }
+}
+
+/// The subject that it is read with.
+fn subject(alloc: Global, media: &str, front: &str, part: &str, back: &str) -> Option<Digest> {
+    match joined(alloc, front, part, back) {
+        Ok(bytes) => match read_manifest(alloc, Some(media.as_bytes()), bytes.as_slice()) {
+            Ok(manifest) => manifest.subject,
+            Err(_) => None,
+        },
+        Err(_) => None,
+    }
+}
+
+/// The media type that it is read with, whose own one it is.
+fn is_own_type(alloc: Global, front: &str, part: &str, back: &str, media: &str) -> bool {
+    match joined(alloc, front, part, back) {
+        Ok(bytes) => match read_manifest(alloc, None, bytes.as_slice()) {
+            Ok(manifest) => manifest.media.bytes() == media.as_bytes(),
+            Err(_) => false,
+        },
+        Err(_) => false,
+    }
+}
+
+const WHOLE: &str = r#"{"schemaVersion":2,"mediaType":"application/vnd.oci.image.manifest.v1+json",
+"config":{"mediaType":"application/vnd.oci.image.config.v1+json","digest":"sha256:44136fa355b3678a1146ad16f7e8649e94fb4fc21fe77e8310c060f61caaff8a","size":2},
+"layers":[{"mediaType":"application/vnd.oci.image.layer.v1.tar","digest":"sha256:ba7816bf8f01cfea414140de5dae2223b00361a396177a9cb410ff61f20015ad","size":3},
+{"mediaType":"application/vnd.oci.image.layer.v1.tar","digest":"sha256:e3b0c44298fc1c149afbf4c8996fb92427ae41e4649b934ca495991b7852b855","size":0,"urls":["https://a/b"]},
+{"mediaType":"application/vnd.oci.image.layer.v1.tar+gzip","digest":"sha256:ba7816bf8f01cfea414140de5dae2223b00361a396177a9cb410ff61f20015ad","size":4},
+{"digest":"sha256:44136fa355b3678a1146ad16f7e8649e94fb4fc21fe77e8310c060f61caaff8a","size":2}],
+"annotations":{"a":"b"},"other":[1,null,true,{},-1.5e3]}
+"#;
+
 #[test]
-fn subjects(rt: HostRuntime) -> Result<(), Fail> {
+fn whole_image(rt: HostRuntime) {
+    let refs = [Digest::of(b"{}"), Digest::of(b"abc"), Digest::of(b"")];
+    assert!(rt; is_image(rt.alloc(), IMAGE, WHOLE, "", "", refs.as_slice()));
+    assert!(rt; is_image(rt.alloc(), DOCKER_IMAGE, WHOLE, "", "", refs.as_slice()));
+}
+
+const FOREIGN: &str =
+    r#"","digest":"sha256:e3b0c44298fc1c149afbf4c8996fb92427ae41e4649b934ca495991b7852b855","size":0}"#;
+
+#[test]
+fn layers_that_may_not_be_distributed(rt: HostRuntime) {
     let alloc = rt.alloc();
-    let rows = [
-        (ABC, true),
-        ("null", false),
-        ("[]", false),
-        ("{}", false),
+    let config = [Digest::of(b"{}")];
+    let both = [Digest::of(b"{}"), Digest::of(b"")];
+    let rows: [(&str, bool); 8] = [
         (
-            "{\"digest\":\"sha256:ba7816bf8f01cfea414140de5dae2223b00361a396177a9cb410ff61f20015ad\"}",
+            r#"{"mediaType":"application/vnd.oci.image.layer.nondistributable.v1.tar"#,
             false,
         ),
-        ("{\"size\":3}", false),
-        ("{\"size\":3,\"digest\":\"abc\"}", false),
         (
-            "\"sha256:ba7816bf8f01cfea414140de5dae2223b00361a396177a9cb410ff61f20015ad\"",
+            r#"{"mediaType":"application/vnd.oci.image.layer.nondistributable.v1.tar+gzip"#,
             false,
         ),
+        (
+            r#"{"mediaType":"application/vnd.oci.image.layer.nondistributable.v1.tar+zstd"#,
+            false,
+        ),
+        (
+            r#"{"mediaType":"application/vnd.docker.image.rootfs.foreign.diff.tar.gzip"#,
+            false,
+        ),
+        (
+            r#"{"mediaType":"application/vnd.oci.image.layer.nondistributable.v1.tar+GZIP"#,
+            true,
+        ),
+        (
+            r#"{"mediaType":"application/vnd.oci.image.layer.nondistributable.v1.tar; a=b"#,
+            true,
+        ),
+        (
+            r#"{"mediaType":"application/vnd.docker.image.rootfs.diff.tar.gzip"#,
+            true,
+        ),
+        (r#"{"mediaType":""#, true),
     ];
-    for (subject, is_read) in rows {
-        let expected = if is_read {
-            Some(Digest::of(b"abc"))
+    for (media, counts) in rows {
+        let refs = if counts {
+            both.as_slice()
         } else {
-            None
+            config.as_slice()
         };
-        let image = format!(in alloc;
-            "{{\"subject\":{subject},\"schemaVersion\":2,\"config\":{OBJECT},\"layers\":[]}}"
-        )?;
-        let manifest = read(alloc, IMAGE, image.as_str())?;
-        assert_eq!(rt; manifest.subject, expected, "{subject}");
-        assert_eq!(rt; manifest.refs.as_slice(), [Digest::of(b"{}")].as_slice());
-        let index = format!(in alloc;
-            "{{\"schemaVersion\":2,\"manifests\":[],\"subject\":{subject}}}"
-        )?;
-        assert_eq!(rt;
-            read(alloc, INDEX, index.as_str())?.subject,
-            expected,
-            "{subject}"
-        );
+        assert!(rt; is_layer(alloc, media, refs), "{media}");
     }
-    Ok(())
 }
+
+/// Whether an image with this layer has these references.
+fn is_layer(alloc: Global, media: &str, refs: &[Digest]) -> bool {
+    match joined(alloc, media, FOREIGN, "]}") {
+        Ok(layer) => match std::str::from_utf8(layer.as_slice()) {
+            Ok(layer) => is_image(alloc, IMAGE, LAYERS, layer, "", refs),
+            Err(_) => false,
+        },
+        Err(_) => false,
+    }
+}
+
+const FOREIGN_CONFIG: &str =
+    r#"{"mediaType":"application/vnd.oci.image.layer.nondistributable.v1.tar","digest":"sha256:e3b0c44298fc1c149afbf4c8996fb92427ae41e4649b934ca495991b7852b855","size":0}"#;
 
 #[test]
-fn content_types(rt: HostRuntime) -> Result<(), Fail> {
+fn foreign_elsewhere(rt: HostRuntime) {
     let alloc = rt.alloc();
-    let image = image_of(alloc, OBJECT, "")?;
-    let good = [
-        "application/vnd.oci.image.manifest.v1+json",
-        " \t application/vnd.oci.image.manifest.v1+json \t",
-        "application/vnd.oci.image.manifest.v1+json;",
-        "application/vnd.oci.image.manifest.v1+json; charset=utf-8",
-        "\tapplication/vnd.oci.image.manifest.v1+json ; a=b; c=\";\"",
-    ];
-    for media in good {
-        assert_eq!(rt;
-            read(alloc, media, image.as_str())?.media.bytes(),
-            IMAGE.as_bytes(),
-            "{media}"
-        );
-    }
-    let bad = [
-        "",
-        " ",
-        ";",
-        "; application/vnd.oci.image.manifest.v1+json",
-        "application/json",
-        "application/vnd.oci.image.manifest.v1+jso",
-        "application/vnd.oci.image.manifest.v1+json2",
-        "application/vnd.oci.image.manifest.v2+json",
-        "Application/vnd.oci.image.manifest.v1+json",
-        "application/vnd.oci.image.manifest.v1+JSON",
-        "\napplication/vnd.oci.image.manifest.v1+json",
-        "application/vnd.oci.image.manifest.v1+json, text/plain",
-        "application /vnd.oci.image.manifest.v1+json",
-        "application/vnd.docker.distribution.manifest.v1+json",
-        "application/vnd.docker.distribution.manifest.v1+prettyjws",
-        "application/vnd.oci.image.config.v1+json",
-        "application/vnd.oci.image.layer.v1.tar",
-    ];
-    for media in bad {
-        assert_eq!(rt;
-            refusal(alloc, Some(media.as_bytes()), image.as_str().as_bytes()),
-            Some(ManifestFault::MediaUnknown),
-            "{media}"
-        );
-    }
-    let no_text = refusal(alloc, Some(b"\xff\xfe"), image.as_str().as_bytes());
-    assert_eq!(rt; no_text, Some(ManifestFault::MediaUnknown));
-    Ok(())
-}
-
-/// The answer to a manifest that is an image and an index at once, without a Content-Type, and which says
-/// this of itself.
-fn said(alloc: Global, member: &str) -> Result<Manifest, ManifestFault> {
-    let text = format!(in alloc;
-        "{{{member}\"schemaVersion\":2,\"config\":{OBJECT},\"layers\":[],\"manifests\":[{ABC}]}}"
+    let empty = [Digest::of(b"")];
+    // a config counts whatever it says, and so does a manifest in an index
+    assert!(rt; is_image(alloc, IMAGE, CONFIG, FOREIGN_CONFIG, "}", empty.as_slice()));
+    assert!(rt;
+        is_index(
+            alloc,
+            INDEX,
+            MANIFESTS,
+            FOREIGN_CONFIG,
+            "]}",
+            empty.as_slice()
+        )
     );
-    match text {
-        Ok(text) => read_manifest(alloc, None, text.as_str().as_bytes()),
-        Err(_) => Err(ManifestFault::Memory),
-    }
 }
 
-fn said_refusal(alloc: Global, member: &str) -> Option<ManifestFault> {
-    match said(alloc, member) {
-        Ok(_) => None,
-        Err(fault) => Some(fault),
+const CHILDREN: &str = r#"{"schemaVersion":2,"manifests":[
+{"digest":"sha256:ba7816bf8f01cfea414140de5dae2223b00361a396177a9cb410ff61f20015ad","size":3,"platform":{"os":"linux"}},
+{"digest":"sha256:44136fa355b3678a1146ad16f7e8649e94fb4fc21fe77e8310c060f61caaff8a","size":2},
+{"digest":"sha256:ba7816bf8f01cfea414140de5dae2223b00361a396177a9cb410ff61f20015ad","size":3},
+{"digest":"sha256:e3b0c44298fc1c149afbf4c8996fb92427ae41e4649b934ca495991b7852b855","size":0},
+{"digest":"sha256:44136fa355b3678a1146ad16f7e8649e94fb4fc21fe77e8310c060f61caaff8a","size":2}]}"#;
+
+#[test]
+fn whole_index(rt: HostRuntime) {
+    let alloc = rt.alloc();
+    let children = [Digest::of(b"abc"), Digest::of(b"{}"), Digest::of(b"")];
+    assert!(rt; is_index(alloc, INDEX, CHILDREN, "", "", children.as_slice()));
+    assert!(rt; is_index(alloc, DOCKER_LIST, CHILDREN, "", "", children.as_slice()));
+    assert!(rt; is_index(alloc, INDEX, MANIFESTS, "", "]}", [].as_slice()));
+}
+
+#[test]
+fn subjects(rt: HostRuntime) {
+    let alloc = rt.alloc();
+    assert_eq!(rt;
+        subject(alloc, IMAGE, SUBJECT, ABC, "}"),
+        Some(Digest::of(b"abc"))
+    );
+    assert_eq!(rt;
+        subject(alloc, INDEX, SUBJECT, ABC, "}"),
+        Some(Digest::of(b"abc"))
+    );
+    let rows: [&str; 7] = [
+        "null",
+        "[]",
+        "{}",
+        r#"{"digest":"sha256:ba7816bf8f01cfea414140de5dae2223b00361a396177a9cb410ff61f20015ad"}"#,
+        r#"{"size":3}"#,
+        r#"{"size":3,"digest":"abc"}"#,
+        r#""sha256:ba7816bf8f01cfea414140de5dae2223b00361a396177a9cb410ff61f20015ad""#,
+    ];
+    for text in rows {
+        assert_eq!(rt; fault(alloc, IMAGE, SUBJECT, text, "}"), None, "{text}");
+        assert_eq!(rt; subject(alloc, IMAGE, SUBJECT, text, "}"), None, "{text}");
     }
 }
 
 #[test]
-fn media_types_of_their_own(rt: HostRuntime) -> Result<(), Fail> {
+fn content_types(rt: HostRuntime) {
     let alloc = rt.alloc();
-    let image = said(
-        alloc,
-        "\"mediaType\":\"application/vnd.oci.image.manifest.v1+json\",",
-    )?;
-    assert_eq!(rt; image.media.bytes(), IMAGE.as_bytes());
-    assert_eq!(rt; image.refs.as_slice(), [Digest::of(b"{}")].as_slice());
-    let index = said(
-        alloc,
-        "\"mediaType\":\"application/vnd.oci.image.index.v1+json\",",
-    )?;
-    assert_eq!(rt; index.media.bytes(), INDEX.as_bytes());
-    assert_eq!(rt; index.children.as_slice(), [Digest::of(b"abc")].as_slice());
+    let rows: [(&str, bool); 22] = [
+        ("application/vnd.oci.image.manifest.v1+json", true),
+        (" \t application/vnd.oci.image.manifest.v1+json \t", true),
+        ("application/vnd.oci.image.manifest.v1+json;", true),
+        (
+            "application/vnd.oci.image.manifest.v1+json; charset=utf-8",
+            true,
+        ),
+        (
+            "\tapplication/vnd.oci.image.manifest.v1+json ; a=b; c=\";\"",
+            true,
+        ),
+        ("", false),
+        (" ", false),
+        (";", false),
+        ("; application/vnd.oci.image.manifest.v1+json", false),
+        ("application/json", false),
+        ("application/vnd.oci.image.manifest.v1+jso", false),
+        ("application/vnd.oci.image.manifest.v1+json2", false),
+        ("application/vnd.oci.image.manifest.v2+json", false),
+        ("Application/vnd.oci.image.manifest.v1+json", false),
+        ("application/vnd.oci.image.manifest.v1+JSON", false),
+        ("\napplication/vnd.oci.image.manifest.v1+json", false),
+        (
+            "application/vnd.oci.image.manifest.v1+json, text/plain",
+            false,
+        ),
+        ("application /vnd.oci.image.manifest.v1+json", false),
+        (
+            "application/vnd.docker.distribution.manifest.v1+json",
+            false,
+        ),
+        (
+            "application/vnd.docker.distribution.manifest.v1+prettyjws",
+            false,
+        ),
+        ("application/vnd.oci.image.config.v1+json", false),
+        ("application/vnd.oci.image.layer.v1.tar", false),
+    ];
+    for (media, is_known) in rows {
+        let expected = if is_known {
+            None
+        } else {
+            Some(ManifestFault::MediaUnknown)
+        };
+        assert_eq!(rt; fault(alloc, media, LAYERS, "", "]}"), expected, "{media}");
+    }
+    assert_eq!(rt;
+        refusal(alloc, Some(b"\xff\xfe"), WHOLE.as_bytes()),
+        Some(ManifestFault::MediaUnknown)
+    );
+}
+
+const OWN: &str =
+    r#"{"schemaVersion":2,"layers":[],"config":{"digest":"sha256:44136fa355b3678a1146ad16f7e8649e94fb4fc21fe77e8310c060f61caaff8a","size":2},"manifests":[]"#;
+
+#[test]
+fn media_types_of_their_own(rt: HostRuntime) {
+    let alloc = rt.alloc();
+    assert!(rt;
+        is_own_type(
+            alloc,
+            OWN,
+            r#","mediaType":"application/vnd.oci.image.manifest.v1+json""#,
+            "}",
+            IMAGE
+        )
+    );
+    assert!(rt;
+        is_own_type(
+            alloc,
+            OWN,
+            r#","mediaType":"application/vnd.oci.image.index.v1+json""#,
+            "}",
+            INDEX
+        )
+    );
+    // of two the last counts
+    assert!(rt;
+        is_own_type(
+            alloc,
+            OWN,
+            r#","mediaType":"application/vnd.oci.image.manifest.v1+json","mediaType":"application/vnd.oci.image.index.v1+json""#,
+            "}",
+            INDEX
+        )
+    );
     // it is taken as it stands
-    let rows = [
+    let rows: [&str; 8] = [
         "",
-        "\"mediaType\":\"application/vnd.oci.image.manifest.v1+json; a=b\",",
-        "\"mediaType\":\" application/vnd.oci.image.manifest.v1+json\",",
-        "\"mediaType\":\"text/plain\",",
-        "\"mediaType\":\"\",",
-        "\"mediaType\":null,",
-        "\"mediaType\":[\"application/vnd.oci.image.manifest.v1+json\"],",
-        "\"MediaType\":\"application/vnd.oci.image.manifest.v1+json\",",
+        r#","mediaType":"application/vnd.oci.image.manifest.v1+json; a=b""#,
+        r#","mediaType":" application/vnd.oci.image.manifest.v1+json""#,
+        r#","mediaType":"text/plain""#,
+        r#","mediaType":"""#,
+        r#","mediaType":null"#,
+        r#","mediaType":["application/vnd.oci.image.manifest.v1+json"]"#,
+        r#","MediaType":"application/vnd.oci.image.manifest.v1+json""#,
     ];
     for member in rows {
         assert_eq!(rt;
-            said_refusal(alloc, member),
+            own_fault(alloc, OWN, member, "}"),
             Some(ManifestFault::MediaUnknown),
             "{member}"
         );
     }
-    // of two the last counts
-    let twice = said(
-        alloc,
-        "\"mediaType\":\"application/vnd.oci.image.manifest.v1+json\",\"mediaType\":\"application/vnd.oci.image.index.v1+json\",",
-    )?;
-    assert_eq!(rt; twice.media.bytes(), INDEX.as_bytes());
-    // the header counts before it
-    let text = format!(in alloc;
-        "{{\"mediaType\":\"{INDEX}\",\"schemaVersion\":2,\"config\":{OBJECT},\"layers\":[],\"manifests\":[{ABC}]}}"
-    )?;
-    let manifest = read(alloc, IMAGE, text.as_str())?;
-    assert_eq!(rt; manifest.media.bytes(), IMAGE.as_bytes());
-    assert_eq!(rt; manifest.children.as_slice(), [].as_slice());
+}
+
+#[test]
+fn header_before_body(rt: HostRuntime) {
+    let alloc = rt.alloc();
+    let config = [Digest::of(b"{}")];
+    let member = r#","mediaType":"application/vnd.oci.image.index.v1+json""#;
+    assert!(rt; is_image(alloc, IMAGE, OWN, member, "}", config.as_slice()));
     assert_eq!(rt;
-        refusal(alloc, Some(b"text/plain"), text.as_str().as_bytes()),
+        fault(alloc, "text/plain", OWN, member, "}"),
         Some(ManifestFault::MediaUnknown)
     );
-    Ok(())
 }
 
 #[test]
@@ -322,11 +432,6 @@ fn no_objects(rt: HostRuntime) {
         b"{\"a\":\"\xed\xa0\x80\"}",
     ];
     for bytes in rows {
-        assert_eq!(rt;
-            refusal(alloc, Some(IMAGE.as_bytes()), bytes),
-            Some(ManifestFault::NotJson),
-            "{bytes:?}"
-        );
         // it comes before the media type
         assert_eq!(rt;
             refusal(alloc, None, bytes),
@@ -334,7 +439,7 @@ fn no_objects(rt: HostRuntime) {
             "{bytes:?}"
         );
     }
-    // an object without anything
+    // an object with nothing in it
     assert_eq!(rt;
         refusal(alloc, Some(IMAGE.as_bytes()), b"\n{}\r\n"),
         Some(ManifestFault::NoSchema)
@@ -347,152 +452,153 @@ fn no_objects(rt: HostRuntime) {
 
 /// An image whose last member is so many arrays in one another.
 fn nested(alloc: Global, count: usize) -> Result<Vec<u8>, AllocError> {
-    let mut text = format!(in alloc;
-        "{{\"schemaVersion\":2,\"config\":{OBJECT},\"layers\":[],\"a\":"
-    )?;
+    let mut bytes = joined(alloc, LAYERS, "", "],\"a\":")?;
     for _ in 0..count {
-        text.push_str("[")?;
+        bytes.push(b'[')?;
     }
     for _ in 0..count {
-        text.push_str("]")?;
+        bytes.push(b']')?;
     }
-    text.push_str("}")?;
-    Vec::from_slice(alloc, text.as_str().as_bytes()).map_err(AllocError::from)
+    bytes.push(b'}')?;
+    Ok(bytes)
+}
+
+fn nested_fault(alloc: Global, count: usize) -> Option<ManifestFault> {
+    match nested(alloc, count) {
+        Ok(bytes) => refusal(alloc, Some(IMAGE.as_bytes()), bytes.as_slice()),
+        Err(_) => Some(ManifestFault::Memory),
+    }
 }
 
 #[test]
-fn nesting(rt: HostRuntime) -> Result<(), Fail> {
+fn nesting(rt: HostRuntime) {
     let alloc = rt.alloc();
-    let media = Some(IMAGE.as_bytes());
     // with the object around them 127, and 128
-    assert_eq!(rt; refusal(alloc, media, nested(alloc, 126)?.as_slice()), None);
-    assert_eq!(rt;
-        refusal(alloc, media, nested(alloc, 127)?.as_slice()),
-        Some(ManifestFault::NotJson)
-    );
-    assert_eq!(rt;
-        refusal(alloc, media, nested(alloc, 100_000)?.as_slice()),
-        Some(ManifestFault::NotJson)
-    );
-    Ok(())
+    assert_eq!(rt; nested_fault(alloc, 126), None);
+    assert_eq!(rt; nested_fault(alloc, 127), Some(ManifestFault::NotJson));
+    assert_eq!(rt; nested_fault(alloc, 100_000), Some(ManifestFault::NotJson));
 }
 
 #[test]
-fn no_schema(rt: HostRuntime) -> Result<(), Fail> {
+fn no_version(rt: HostRuntime) {
     let alloc = rt.alloc();
-    let versions = [
-        "1",
-        "3",
-        "0",
-        "-2",
-        "2.0",
-        "2e0",
-        "20e-1",
-        "\"2\"",
-        "null",
-        "[2]",
-        "{}",
-        "true",
-        "18446744073709551618",
+    let front = r#"{"config":{},"layers":[],"manifests":[]"#;
+    let rows: [&str; 14] = [
+        "",
+        r#","schemaVersion":1"#,
+        r#","schemaVersion":3"#,
+        r#","schemaVersion":0"#,
+        r#","schemaVersion":-2"#,
+        r#","schemaVersion":2.0"#,
+        r#","schemaVersion":2e0"#,
+        r#","schemaVersion":20e-1"#,
+        r#","schemaVersion":"2""#,
+        r#","schemaVersion":null"#,
+        r#","schemaVersion":[2]"#,
+        r#","schemaVersion":true"#,
+        r#","schemaVersion":18446744073709551618"#,
+        r#","schemaVersion":2,"schemaVersion":1"#,
     ];
-    for version in versions {
-        let rest = format!(in alloc;
-            "\"schemaVersion\":{version},\"config\":{OBJECT},\"layers\":[]}}"
-        )?;
+    for member in rows {
         assert_eq!(rt;
-            image_refusal(alloc, rest.as_str())?,
+            fault(alloc, IMAGE, front, member, "}"),
             Some(ManifestFault::NoSchema),
-            "{version}"
+            "{member}"
+        );
+        assert_eq!(rt;
+            fault(alloc, INDEX, front, member, "}"),
+            Some(ManifestFault::NoSchema),
+            "{member}"
         );
     }
-    let others = ["null", "[]", "[{}]", "\"a\"", "1", "true"];
-    for config in others {
-        let rest = format!(in alloc; "\"schemaVersion\":2,\"config\":{config},\"layers\":[]}}")?;
-        assert_eq!(rt;
-            image_refusal(alloc, rest.as_str())?,
-            Some(ManifestFault::NoSchema),
-            "{config}"
-        );
-    }
-    let others = ["null", "{}", "{\"0\":{}}", "\"a\"", "1", "true"];
-    for list in others {
-        let rest = format!(in alloc;
-            "\"schemaVersion\":2,\"config\":{OBJECT},\"layers\":{list}}}"
-        )?;
-        assert_eq!(rt;
-            image_refusal(alloc, rest.as_str())?,
-            Some(ManifestFault::NoSchema),
-            "{list}"
-        );
-        let index = format!(in alloc; "{{\"schemaVersion\":2,\"manifests\":{list}}}")?;
-        assert_eq!(rt;
-            refusal(alloc, Some(INDEX.as_bytes()), index.as_str().as_bytes()),
-            Some(ManifestFault::NoSchema),
-            "{list}"
-        );
-    }
-    let image = image_of(alloc, OBJECT, ABC)?;
-    let index = index_of(alloc, ABC)?;
     assert_eq!(rt;
-        refusal(alloc, Some(INDEX.as_bytes()), image.as_str().as_bytes()),
-        Some(ManifestFault::NoSchema)
+        fault(
+            alloc,
+            INDEX,
+            front,
+            r#","schemaVersion":1,"schemaVersion":2"#,
+            "}"
+        ),
+        None
     );
-    assert_eq!(rt;
-        refusal(alloc, Some(IMAGE.as_bytes()), index.as_str().as_bytes()),
-        Some(ManifestFault::NoSchema)
-    );
-    assert_eq!(rt;
-        image_refusal(alloc, "\"schemaVersion\":2,\"layers\":[]}")?,
-        Some(ManifestFault::NoSchema)
-    );
-    assert_eq!(rt;
-        image_refusal(alloc, "\"schemaVersion\":2,\"config\":{}}")?,
-        Some(ManifestFault::NoSchema)
-    );
-    assert_eq!(rt;
-        image_refusal(alloc, "\"config\":{},\"layers\":[]}")?,
-        Some(ManifestFault::NoSchema)
-    );
-    Ok(())
 }
 
 #[test]
-fn repeated_members(rt: HostRuntime) -> Result<(), Fail> {
+fn no_lists(rt: HostRuntime) {
     let alloc = rt.alloc();
-    let rest = format!(in alloc;
-        "\"schemaVersion\":2,\"config\":{OBJECT},\"layers\":[],\"schemaVersion\":1}}"
-    )?;
-    assert_eq!(rt;
-        image_refusal(alloc, rest.as_str())?,
-        Some(ManifestFault::NoSchema)
-    );
-    let rest = format!(in alloc;
-        "\"schemaVersion\":1,\"config\":{OBJECT},\"layers\":[],\"schemaVersion\":2}}"
-    )?;
-    assert_eq!(rt; image_refusal(alloc, rest.as_str())?, None);
-    let text = format!(in alloc;
-        "{{\"config\":[],\"schemaVersion\":2,\"config\":{OBJECT},\"layers\":[{EMPTY}],\"config\":{ABC},\"layers\":[]}}"
-    )?;
-    assert_eq!(rt;
-        read(alloc, IMAGE, text.as_str())?.refs.as_slice(),
-        [Digest::of(b"abc")].as_slice()
+    let rows: [&str; 13] = [
+        "",
+        r#","config":{}"#,
+        r#","layers":[]"#,
+        r#","config":[],"layers":[]"#,
+        r#","config":[{}],"layers":[]"#,
+        r#","config":null,"layers":[]"#,
+        r#","config":"a","layers":[]"#,
+        r#","config":1,"layers":[]"#,
+        r#","config":{},"layers":{}"#,
+        r#","config":{},"layers":{"0":{}}"#,
+        r#","config":{},"layers":null"#,
+        r#","config":{},"layers":"a""#,
+        r#","manifests":[]"#,
+    ];
+    for members in rows {
+        assert_eq!(rt;
+            fault(alloc, IMAGE, r#"{"schemaVersion":2"#, members, "}"),
+            Some(ManifestFault::NoSchema),
+            "{members}"
+        );
+    }
+    let rows: [&str; 6] = [
+        "",
+        r#","manifests":{}"#,
+        r#","manifests":{"0":{}}"#,
+        r#","manifests":null"#,
+        r#","manifests":"a""#,
+        r#","config":{},"layers":[]"#,
+    ];
+    for members in rows {
+        assert_eq!(rt;
+            fault(alloc, INDEX, r#"{"schemaVersion":2"#, members, "}"),
+            Some(ManifestFault::NoSchema),
+            "{members}"
+        );
+    }
+}
+
+#[test]
+fn repeated_members(rt: HostRuntime) {
+    let alloc = rt.alloc();
+    let abc = [Digest::of(b"abc")];
+    assert!(rt;
+        is_image(
+            alloc,
+            IMAGE,
+            SUBJECT,
+            r#"null,"config":[],"layers":[{}],"config":"#,
+            r#"{"digest":"sha256:ba7816bf8f01cfea414140de5dae2223b00361a396177a9cb410ff61f20015ad","size":3},"layers":[]}"#,
+            abc.as_slice()
+        )
     );
     // a name is the same however it is written
-    let text = format!(in alloc;
-        "{{\"schemaVersion\":2,\"config\":{OBJECT},\"layers\":[],\"c\\u006fnfig\":{ABC}}}"
-    )?;
-    assert_eq!(rt;
-        read(alloc, IMAGE, text.as_str())?.refs.as_slice(),
-        [Digest::of(b"abc")].as_slice()
+    assert!(rt;
+        is_image(
+            alloc,
+            IMAGE,
+            SUBJECT,
+            r#"null,"c\u006fnfig":"#,
+            r#"{"digest":"sha256:ba7816bf8f01cfea414140de5dae2223b00361a396177a9cb410ff61f20015ad","size":3}}"#,
+            abc.as_slice()
+        )
     );
-    Ok(())
 }
 
 #[test]
-fn sizes(rt: HostRuntime) -> Result<(), Fail> {
+fn sizes(rt: HostRuntime) {
     let alloc = rt.alloc();
     assert_eq!(rt; MAX_BLOB, 68_719_476_736);
-    let rows = [
+    let front =
+        r#"{"digest":"sha256:ba7816bf8f01cfea414140de5dae2223b00361a396177a9cb410ff61f20015ad","size":"#;
+    let rows: [(&str, bool); 16] = [
         ("0", true),
         ("1", true),
         ("68719476736", true),
@@ -511,211 +617,216 @@ fn sizes(rt: HostRuntime) -> Result<(), Fail> {
         ("true", false),
     ];
     for (size, is_good) in rows {
-        let layer = format!(in alloc;
-            "{{\"size\":{size},\"digest\":\"sha256:ba7816bf8f01cfea414140de5dae2223b00361a396177a9cb410ff61f20015ad\"}}"
-        )?;
-        let image = image_of(alloc, OBJECT, layer.as_str())?;
-        let expected = if is_good {
-            None
-        } else {
-            Some(ManifestFault::BadDescriptor { place: 1 })
-        };
-        assert_eq!(rt;
-            refusal(alloc, Some(IMAGE.as_bytes()), image.as_str().as_bytes()),
-            expected,
-            "{size}"
-        );
+        let expected = if is_good { None } else { BAD_AT_1 };
+        assert_eq!(rt; layer_fault(alloc, front, size, "}"), expected, "{size}");
     }
-    Ok(())
+}
+
+/// Why an image with a layer of three parts is refused, if it is.
+fn layer_fault(alloc: Global, front: &str, part: &str, back: &str) -> Option<ManifestFault> {
+    match joined(alloc, front, part, back) {
+        Ok(layer) => match std::str::from_utf8(layer.as_slice()) {
+            Ok(layer) => fault(alloc, IMAGE, LAYERS, layer, "]}"),
+            Err(_) => None,
+        },
+        Err(_) => Some(ManifestFault::Memory),
+    }
 }
 
 #[test]
-fn digests(rt: HostRuntime) -> Result<(), Fail> {
+fn digests(rt: HostRuntime) {
     let alloc = rt.alloc();
-    let rows = [
+    let rows: [(&str, bool); 18] = [
         (
-            "\"sha256:ba7816bf8f01cfea414140de5dae2223b00361a396177a9cb410ff61f20015ad\"",
+            r#""sha256:ba7816bf8f01cfea414140de5dae2223b00361a396177a9cb410ff61f20015ad""#,
             true,
         ),
         (
-            "\"sha256:ba7816bf8f01cfea414140de5dae2223b00361a396177a9cb410ff61f20015a\\u0064\"",
+            r#""sha256:ba7816bf8f01cfea414140de5dae2223b00361a396177a9cb410ff61f20015a\u0064""#,
             true,
         ),
         (
-            "\"sha256:BA7816BF8F01CFEA414140DE5DAE2223B00361A396177A9CB410FF61F20015AD\"",
+            r#""sha256:BA7816BF8F01CFEA414140DE5DAE2223B00361A396177A9CB410FF61F20015AD""#,
             false,
         ),
         (
-            "\"sha256:ba7816bf8f01cfea414140de5dae2223b00361a396177a9cb410ff61f20015aD\"",
+            r#""sha256:ba7816bf8f01cfea414140de5dae2223b00361a396177a9cb410ff61f20015aD""#,
             false,
         ),
         (
-            "\"SHA256:ba7816bf8f01cfea414140de5dae2223b00361a396177a9cb410ff61f20015ad\"",
+            r#""SHA256:ba7816bf8f01cfea414140de5dae2223b00361a396177a9cb410ff61f20015ad""#,
             false,
         ),
         (
-            "\"sha512:ba7816bf8f01cfea414140de5dae2223b00361a396177a9cb410ff61f20015ad\"",
+            r#""sha512:ba7816bf8f01cfea414140de5dae2223b00361a396177a9cb410ff61f20015ad""#,
             false,
         ),
         (
-            "\"sha512:ddaf35a193617abacc417349ae20413112e6fa4e89a97ea20a9eeee64b55d39a2192992a274fc1a836ba3c23a3feebbd454d4423643ce80e2a9ac94fa54ca49f\"",
+            r#""sha512:ddaf35a193617abacc417349ae20413112e6fa4e89a97ea20a9eeee64b55d39a2192992a274fc1a836ba3c23a3feebbd454d4423643ce80e2a9ac94fa54ca49f""#,
             false,
         ),
         (
-            "\"sha256:ba7816bf8f01cfea414140de5dae2223b00361a396177a9cb410ff61f20015a\"",
+            r#""sha256:ba7816bf8f01cfea414140de5dae2223b00361a396177a9cb410ff61f20015a""#,
             false,
         ),
         (
-            "\"sha256:ba7816bf8f01cfea414140de5dae2223b00361a396177a9cb410ff61f20015ad0\"",
+            r#""sha256:ba7816bf8f01cfea414140de5dae2223b00361a396177a9cb410ff61f20015ad0""#,
             false,
         ),
         (
-            "\"sha256:ba7816bf8f01cfea414140de5dae2223b00361a396177a9cb410ff61f20015ag\"",
+            r#""sha256:ba7816bf8f01cfea414140de5dae2223b00361a396177a9cb410ff61f20015ag""#,
             false,
         ),
         (
-            "\" sha256:ba7816bf8f01cfea414140de5dae2223b00361a396177a9cb410ff61f20015ad\"",
+            r#"" sha256:ba7816bf8f01cfea414140de5dae2223b00361a396177a9cb410ff61f20015ad""#,
             false,
         ),
         (
-            "\"sha256:ba7816bf8f01cfea414140de5dae2223b00361a396177a9cb410ff61f20015ad\\n\"",
+            r#""sha256:ba7816bf8f01cfea414140de5dae2223b00361a396177a9cb410ff61f20015ad\n""#,
             false,
         ),
         (
-            "\"ba7816bf8f01cfea414140de5dae2223b00361a396177a9cb410ff61f20015ad\"",
+            r#""ba7816bf8f01cfea414140de5dae2223b00361a396177a9cb410ff61f20015ad""#,
             false,
         ),
-        ("\"sha256:\"", false),
-        ("\"\"", false),
+        (r#""sha256:""#, false),
+        (r#""""#, false),
         (
-            "[\"sha256:ba7816bf8f01cfea414140de5dae2223b00361a396177a9cb410ff61f20015ad\"]",
+            r#"["sha256:ba7816bf8f01cfea414140de5dae2223b00361a396177a9cb410ff61f20015ad"]"#,
             false,
         ),
         ("null", false),
         ("1", false),
     ];
     for (digest, is_good) in rows {
-        let config = format!(in alloc; "{{\"digest\":{digest},\"size\":3}}")?;
-        let image = image_of(alloc, config.as_str(), "")?;
-        let expected = if is_good {
-            None
-        } else {
-            Some(ManifestFault::BadDescriptor { place: 0 })
-        };
+        let expected = if is_good { None } else { BAD_AT_1 };
         assert_eq!(rt;
-            refusal(alloc, Some(IMAGE.as_bytes()), image.as_str().as_bytes()),
+            layer_fault(alloc, r#"{"size":3,"digest":"#, digest, "}"),
             expected,
             "{digest}"
         );
     }
-    Ok(())
 }
 
 #[test]
-fn first_bad_descriptors(rt: HostRuntime) -> Result<(), Fail> {
+fn first_bad_descriptors(rt: HostRuntime) {
     let alloc = rt.alloc();
-    let bad = "{\"size\":1}";
-    let image = image_of(alloc, bad, "[],{}")?;
     assert_eq!(rt;
-        refusal(alloc, Some(IMAGE.as_bytes()), image.as_str().as_bytes()),
-        Some(ManifestFault::BadDescriptor { place: 0 })
+        fault(alloc, IMAGE, CONFIG, "{}", ",\"layers\":[[],{}]}"),
+        BAD_AT_0
     );
-    let layers = format!(in alloc; "{ABC},{EMPTY},null,{ABC},{bad}")?;
-    let image = image_of(alloc, OBJECT, layers.as_str())?;
+    assert_eq!(rt; fault(alloc, IMAGE, LAYERS, ABC, ",null,{}]}"), BAD_AT_2);
+    assert_eq!(rt; fault(alloc, INDEX, MANIFESTS, ABC, ",null,{}]}"), BAD_AT_1);
+    assert_eq!(rt; fault(alloc, INDEX, MANIFESTS, "1", ",null,{}]}"), BAD_AT_0);
+    let front =
+        r#"{"schemaVersion":2,"config":{"digest":"sha256:44136fa355b3678a1146ad16f7e8649e94fb4fc21fe77e8310c060f61caaff8a","size":2},"layers":[{"digest":"sha256:44136fa355b3678a1146ad16f7e8649e94fb4fc21fe77e8310c060f61caaff8a","size":2},"#;
+    assert_eq!(rt; fault(alloc, IMAGE, front, OBJECT, ",[]]}"), BAD_AT_3);
+    // what isn't to be stored is a descriptor too
     assert_eq!(rt;
-        refusal(alloc, Some(IMAGE.as_bytes()), image.as_str().as_bytes()),
-        Some(ManifestFault::BadDescriptor { place: 3 })
+        fault(
+            alloc,
+            IMAGE,
+            LAYERS,
+            r#"{"mediaType":"application/vnd.oci.image.layer.nondistributable.v1.tar","size":1}"#,
+            "]}"
+        ),
+        BAD_AT_1
     );
-    let index = index_of(alloc, layers.as_str())?;
+    // and a media type may be anything
     assert_eq!(rt;
-        refusal(alloc, Some(INDEX.as_bytes()), index.as_str().as_bytes()),
-        Some(ManifestFault::BadDescriptor { place: 2 })
+        fault(
+            alloc,
+            IMAGE,
+            LAYERS,
+            r#"{"mediaType":7,"size":3,"#,
+            r#""digest":"sha256:ba7816bf8f01cfea414140de5dae2223b00361a396177a9cb410ff61f20015ad"}]}"#
+        ),
+        None
     );
-    // what is nondistributable has to be a descriptor too
-    let layers =
-        "{\"mediaType\":\"application/vnd.oci.image.layer.nondistributable.v1.tar\",\"size\":1}";
-    let image = image_of(alloc, OBJECT, layers)?;
-    assert_eq!(rt;
-        refusal(alloc, Some(IMAGE.as_bytes()), image.as_str().as_bytes()),
-        Some(ManifestFault::BadDescriptor { place: 1 })
-    );
-    // its media type may be anything
-    let layers =
-        "{\"mediaType\":7,\"size\":3,\"digest\":\"sha256:ba7816bf8f01cfea414140de5dae2223b00361a396177a9cb410ff61f20015ad\"}";
-    let image = image_of(alloc, OBJECT, layers)?;
-    assert_eq!(rt;
-        read(alloc, IMAGE, image.as_str())?.refs.as_slice(),
-        [Digest::of(b"{}"), Digest::of(b"abc")].as_slice()
-    );
+}
+
+/// A descriptor whose digest is its own among this many.
+fn push_descriptor(bytes: &mut Vec<u8>, place: usize) -> Result<(), AllocError> {
+    let mut digest = *b"sha256:0000000000000000000000000000000000000000000000000000000000000000";
+    digest[70] = b'0' + (place % 10) as u8;
+    digest[69] = b'0' + (place / 10 % 10) as u8;
+    digest[68] = b'0' + (place / 100 % 10) as u8;
+    digest[67] = b'0' + (place / 1000 % 10) as u8;
+    bytes.extend_from_slice(b"{\"size\":0,\"digest\":\"")?;
+    bytes.extend_from_slice(digest.as_slice())?;
+    bytes.extend_from_slice(b"\"},")?;
     Ok(())
 }
 
-/// So many descriptors, each of its own digest where it is one, and a bad one at the end where one is asked
-/// for.
-fn many(alloc: Global, count: usize, ends_bad: bool) -> Result<String, AllocError> {
-    let mut text = String::new(alloc);
+/// A manifest that begins so, with this many descriptors and then this last one.
+fn many(alloc: Global, front: &str, count: usize, last: &str) -> Result<Vec<u8>, AllocError> {
+    let mut bytes = Vec::from_slice(alloc, front.as_bytes())?;
     for place in 0..count {
-        if place > 0 {
-            text.push_str(",")?;
-        }
-        if ends_bad && place + 1 == count {
-            text.push_str("{}")?;
-        } else {
-            let one = format!(in alloc; "{{\"digest\":\"sha256:{place:064x}\",\"size\":{place}}}")?;
-            text.push_str(one.as_str())?;
-        }
+        push_descriptor(&mut bytes, place)?;
     }
-    Ok(text)
+    bytes.extend_from_slice(last.as_bytes())?;
+    bytes.extend_from_slice(b"]}")?;
+    Ok(bytes)
+}
+
+fn many_fault(
+    alloc: Global,
+    media: &str,
+    front: &str,
+    count: usize,
+    last: &str,
+) -> Option<ManifestFault> {
+    match many(alloc, front, count, last) {
+        Ok(bytes) => refusal(alloc, Some(media.as_bytes()), bytes.as_slice()),
+        Err(_) => Some(ManifestFault::Memory),
+    }
+}
+
+/// How many digests an image refers to, and an index lists.
+fn many_read(alloc: Global, media: &str, front: &str, count: usize, last: &str) -> usize {
+    match many(alloc, front, count, last) {
+        Ok(bytes) => match read_manifest(alloc, Some(media.as_bytes()), bytes.as_slice()) {
+            Ok(manifest) => manifest.refs.len().saturating_add(manifest.children.len()),
+            Err(_) => 0,
+        },
+        Err(_) => 0,
+    }
 }
 
 #[test]
-fn numbers_of_descriptors(rt: HostRuntime) -> Result<(), Fail> {
+fn numbers_of_descriptors(rt: HostRuntime) {
     let alloc = rt.alloc();
-    let image = image_of(
-        alloc,
-        OBJECT,
-        many(alloc, MAX_DESCRIPTORS - 1, false)?.as_str(),
-    )?;
-    assert_eq!(rt; read(alloc, IMAGE, image.as_str())?.refs.len(), 1000);
-    let image = image_of(alloc, OBJECT, many(alloc, MAX_DESCRIPTORS, false)?.as_str())?;
+    assert_eq!(rt; MAX_DESCRIPTORS, 1000);
+    // the config, 998 layers and one more; and 999 and one more
+    assert_eq!(rt; many_read(alloc, IMAGE, LAYERS, 998, ABC), 1000);
     assert_eq!(rt;
-        refusal(alloc, Some(IMAGE.as_bytes()), image.as_str().as_bytes()),
+        many_fault(alloc, IMAGE, LAYERS, 999, ABC),
         Some(ManifestFault::TooMany)
     );
-    let index = index_of(alloc, many(alloc, MAX_DESCRIPTORS, false)?.as_str())?;
-    assert_eq!(rt; read(alloc, INDEX, index.as_str())?.children.len(), 1000);
-    let index = index_of(alloc, many(alloc, MAX_DESCRIPTORS + 1, false)?.as_str())?;
+    assert_eq!(rt; many_read(alloc, INDEX, MANIFESTS, 999, ABC), 1000);
     assert_eq!(rt;
-        refusal(alloc, Some(INDEX.as_bytes()), index.as_str().as_bytes()),
+        many_fault(alloc, INDEX, MANIFESTS, 1000, ABC),
         Some(ManifestFault::TooMany)
     );
-    // too many comes before a bad one, and the last place is told
-    let image = image_of(alloc, "{}", many(alloc, MAX_DESCRIPTORS, true)?.as_str())?;
+    // it comes before a bad one, and the last place is told
     assert_eq!(rt;
-        refusal(alloc, Some(IMAGE.as_bytes()), image.as_str().as_bytes()),
+        many_fault(alloc, IMAGE, LAYERS, 999, "{}"),
         Some(ManifestFault::TooMany)
     );
-    let image = image_of(
-        alloc,
-        OBJECT,
-        many(alloc, MAX_DESCRIPTORS - 1, true)?.as_str(),
-    )?;
-    assert_eq!(rt;
-        refusal(alloc, Some(IMAGE.as_bytes()), image.as_str().as_bytes()),
-        Some(ManifestFault::BadDescriptor { place: 999 })
-    );
-    let index = index_of(alloc, many(alloc, MAX_DESCRIPTORS, true)?.as_str())?;
-    assert_eq!(rt;
-        refusal(alloc, Some(INDEX.as_bytes()), index.as_str().as_bytes()),
-        Some(ManifestFault::BadDescriptor { place: 999 })
-    );
-    Ok(())
+    assert_eq!(rt; many_fault(alloc, IMAGE, LAYERS, 998, "{}"), BAD_AT_999);
+    assert_eq!(rt; many_fault(alloc, INDEX, MANIFESTS, 999, "{}"), BAD_AT_999);
 }
 
-/// An image of this many bytes, by blanks at its end.
+/// Why an image of this many bytes is refused, if it is: blanks stand at its end.
+fn long_fault(alloc: Global, media: Option<&[u8]>, length: usize) -> Option<ManifestFault> {
+    match of_length(alloc, length) {
+        Ok(bytes) => refusal(alloc, media, bytes.as_slice()),
+        Err(_) => Some(ManifestFault::Memory),
+    }
+}
+
 fn of_length(alloc: Global, length: usize) -> Result<Vec<u8>, AllocError> {
-    let image = image_of(alloc, OBJECT, ABC)?;
-    let mut bytes = Vec::from_slice(alloc, image.as_str().as_bytes())?;
+    let mut bytes = joined(alloc, LAYERS, ABC, "]}")?;
     for _ in bytes.len()..length {
         bytes.push(b' ')?;
     }
@@ -723,52 +834,40 @@ fn of_length(alloc: Global, length: usize) -> Result<Vec<u8>, AllocError> {
 }
 
 #[test]
-fn lengths(rt: HostRuntime) -> Result<(), Fail> {
+fn lengths(rt: HostRuntime) {
     let alloc = rt.alloc();
     assert_eq!(rt; MAX_MANIFEST, 4_194_304);
-    let most = of_length(alloc, MAX_MANIFEST)?;
-    assert_eq!(rt; most.len(), 4_194_304);
+    assert_eq!(rt; long_fault(alloc, Some(IMAGE.as_bytes()), 4_194_304), None);
     assert_eq!(rt;
-        refusal(alloc, Some(IMAGE.as_bytes()), most.as_slice()),
-        None
-    );
-    let more = of_length(alloc, MAX_MANIFEST + 1)?;
-    assert_eq!(rt; more.len(), 4_194_305);
-    assert_eq!(rt;
-        refusal(alloc, Some(IMAGE.as_bytes()), more.as_slice()),
+        long_fault(alloc, Some(IMAGE.as_bytes()), 4_194_305),
         Some(ManifestFault::TooLong)
     );
     // it comes before all else
     assert_eq!(rt;
-        refusal(alloc, None, more.as_slice()),
+        long_fault(alloc, None, 4_194_304),
+        Some(ManifestFault::MediaUnknown)
+    );
+    assert_eq!(rt;
+        long_fault(alloc, None, 4_194_305),
         Some(ManifestFault::TooLong)
     );
-    Ok(())
 }
 
 #[test]
 fn copies(rt: HostRuntime) -> Result<(), Fail> {
     let alloc = rt.alloc();
-    let text = format!(in alloc;
-        "{{\"schemaVersion\":2,\"config\":{OBJECT},\"layers\":[{ABC}],\"subject\":{EMPTY}}}"
-    )?;
-    let manifest = read(alloc, IMAGE, text.as_str())?;
+    let manifest = read_manifest(alloc, None, WHOLE.as_bytes())?;
     let copy = manifest.copy(alloc)?;
-    let children: &DigestList = &copy.children;
-    assert_eq!(rt; copy.media.bytes(), IMAGE.as_bytes());
-    assert_eq!(rt;
-        copy.refs.as_slice(),
-        [Digest::of(b"{}"), Digest::of(b"abc")].as_slice()
-    );
-    assert_eq!(rt; children.len(), 0);
-    assert_eq!(rt; copy.subject, Some(Digest::of(b"")));
+    let refs: &DigestList = &copy.refs;
+    assert_eq!(rt; refs.len(), 3);
+    assert!(rt; is_same(&copy, IMAGE, manifest.refs.as_slice(), [].as_slice(), None));
     Ok(())
 }
 
 #[test]
 fn faults(rt: HostRuntime) -> Result<(), Fail> {
     let alloc = rt.alloc();
-    let rows = [
+    let rows: [(ManifestFault, &str); 7] = [
         (ManifestFault::MediaUnknown, "unknown media type"),
         (ManifestFault::NotJson, "not a JSON object"),
         (ManifestFault::NoSchema, "not of schema 2"),
@@ -781,8 +880,7 @@ fn faults(rt: HostRuntime) -> Result<(), Fail> {
         (ManifestFault::from(Memory), "out of memory"),
     ];
     for (fault, text) in rows {
-        let written = format!(in alloc; "{fault}")?;
-        assert_eq!(rt; written.as_str(), text);
+        assert_eq!(rt; format!(in alloc; "{fault}")?.as_str(), text);
     }
     Ok(())
 }
