@@ -1,4 +1,6 @@
+pub mod Contained
 pub mod DigestTexts
 pub mod JsonLists
 pub mod Listing
 pub mod Once
+pub mod Sound

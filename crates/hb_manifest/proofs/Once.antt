@@ -16,7 +16,7 @@ same-Decides a b =
     let made : List ℕ → Digest = λ bytes. record { 0 = bytes } in
     (λ e. ap made ((bytes_eq-Decides a.0 b.0).0 e), λ e. (bytes_eq-Decides a.0 b.0).1 (ap (λ (d : Digest). d.0) e))
 
-same-sym : (a b : Digest) → same_digest a b ≡ same_digest b a
+pub same-sym : (a b : Digest) → same_digest a b ≡ same_digest b a
 same-sym a b = one_answer (same_digest a b) (same_digest b a) (same-Decides a b) (λ e. sym ((same-Decides b a).0 e), λ e. (same-Decides b a).1 (sym e))
 
 -- Whether a digest is among them isn't changed by leaving out another.

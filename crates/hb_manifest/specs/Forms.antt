@@ -5,7 +5,6 @@ use Rattle.std.specs.Option.{option_map_or}
 use Rattle.serde_json.specs.Data.{Data}
 use Rattle.serde_json.specs.Find.{get}
 use Rattle.hb_text.specs.declared.digests.Digest.{Digest}
-use Rattle.hb_manifest.specs.declared.TheConstants.{MAX_MANIFEST, MAX_DESCRIPTORS}
 use Rattle.hb_manifest.specs.declared.media.Kind.{Kind}
 use Rattle.hb_manifest.specs.declared.media.Kind.TheVariants.{Image, Index}
 use Rattle.hb_manifest.specs.declared.manifests.Manifest.{Manifest}
@@ -15,6 +14,13 @@ use Rattle.hb_manifest.specs.Json.{json_of, when_object, whole_at, object_at, li
 use Rattle.hb_manifest.specs.MediaTypes.{media_type, kind_of, is_nondistributable}
 use Rattle.hb_manifest.specs.Descriptors.{descriptor}
 use Rattle.hb_manifest.specs.Lists.{each_once}
+
+-- the most bytes of a manifest, and the most descriptors
+abbrev pub most_bytes : ℕ
+most_bytes = 4194304
+
+abbrev pub most_descriptors : ℕ
+most_descriptors = 1000
 
 -- the next step, where nothing was refused before it
 infixl 10 ◌>>=◌
@@ -47,7 +53,7 @@ refused_at None = Ok tt
 -- descriptors that aren't too many, each of which is one
 abbrev pub checked : List Data → Result (Unit {0}) ManifestFault
 checked ds = do
-  count ← refused_if (nat_lt MAX_DESCRIPTORS (length ds)) TooMany
+  count ← refused_if (nat_lt most_descriptors (length ds)) TooMany
   refused_at (bad_place ds)
 
 -- what an image needs to be stored: its config, and the layers that may be distributed
@@ -82,6 +88,6 @@ object_form header d = do
 -- Bytes as a manifest, beside a Content-Type or without one, or the first refusal that applies.
 abbrev pub manifest_form : Option (List ℕ) → List ℕ → Result Manifest ManifestFault
 manifest_form header bytes = do
-  short ← refused_if (nat_lt MAX_MANIFEST (length bytes)) TooLong
+  short ← refused_if (nat_lt most_bytes (length bytes)) TooLong
   d ← ok_or (option_and_then when_object (json_of bytes)) NotJson
   object_form header d

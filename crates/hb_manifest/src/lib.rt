@@ -12,6 +12,7 @@
 
 mod descriptors;
 mod json;
+pub mod laws;
 mod lists;
 mod manifests;
 mod media;

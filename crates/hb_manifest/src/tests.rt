@@ -1,5 +1,6 @@
 //! Manifests good and bad: those of the specifications, hostile ones, and ones at their limits.
 
+use crate::laws::{digests_have_one_text, manifests_are_sound};
 use crate::{
     DigestList, MAX_BLOB, MAX_DESCRIPTORS, MAX_MANIFEST, Manifest, ManifestFault, read_manifest,
 };
@@ -883,4 +884,10 @@ fn faults(rt: HostRuntime) -> Result<(), Fail> {
         assert_eq!(rt; format!(in alloc; "{fault}")?.as_str(), text);
     }
     Ok(())
+}
+
+#[test]
+fn laws_hold(_rt: HostRuntime) {
+    digests_have_one_text();
+    manifests_are_sound();
 }
