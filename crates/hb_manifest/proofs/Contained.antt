@@ -1,7 +1,6 @@
 -- What lists have, and what stands in the lists of digests.
-use Rattle.std.proofs.Common.{◌≡◌, ◌≢◌, ◌<◌, ◌∙◌, ◌⊎◌, inl, inr, ⊎_elim, ℕ, zero, suc, List, [], ◌∷◌, length, get_or, Option, Some, None, refl, sym, ap, subst, arith}
-use Rattle.std.specs.Prelude.{◌↔◌}
-use Rattle.std.specs.List.{Contains, filter_map, cons_option, list_any, AllPairs}
+use Rattle.std.proofs.Common.{◌≡◌, ◌<◌, ◌∙◌, ◌⊎◌, inl, inr, ⊎_elim, ℕ, zero, suc, List, [], ◌∷◌, length, get_or, Option, Some, None, refl, sym, ap, subst, arith}
+use Rattle.std.specs.List.{Contains, filter_map, cons_option}
 use Rattle.std.specs.Cmp.{IsEquivalence}
 use Rattle.std.proofs.lemmas.Map.Views.{Contains-from_any, list_any-from_Contains}
 use Rattle.serde_json.specs.Data.{Data}
@@ -11,7 +10,7 @@ use Rattle.hb_manifest.specs.declared.media.Kind.TheVariants.{Image, Index}
 use Rattle.hb_manifest.specs.Descriptors.{descriptor}
 use Rattle.hb_manifest.specs.Lists.{same_digest, each_once}
 use Rattle.hb_manifest.specs.Forms.{needed, refs, children}
-use Rattle.hb_manifest.specs.Laws.{Names, HasEachOnce, referring, containing}
+use Rattle.hb_manifest.specs.Laws.{HasEachOnce, referring, containing}
 use Rattle.hb_manifest.proofs.Once.{same-Decides, same-sym, once-differ, any-once}
 
 there : {X : Type 0} (x : X) (xs : List X) (y : X) → Contains xs y → Contains (x ∷ xs) y

@@ -4,3 +4,4 @@ pub mod JsonLists
 pub mod Listing
 pub mod Once
 pub mod Sound
+pub mod Told

@@ -1,13 +1,12 @@
 -- Descriptors among values that are looked at one after another.
-use Rattle.std.proofs.Common.{◌≡◌, ◌∙◌, ◌+◌, ◌<◌, ◌≤◌, ◌++◌, ℕ, Bool, true, false, not, cond, nat_lt, List, [], ◌∷◌, length, take, drop, map, get_or, Option, Some, None, refl, sym, ap, arith, append_assoc, append-nil, add-one, drop-cons}
-use Rattle.std.specs.List.{filter, filter_map, position, position_or_len, prefix_len, cons_option}
+use Rattle.std.proofs.Common.{◌≡◌, ◌∙◌, ◌+◌, ◌<◌, ◌≤◌, ◌++◌, ℕ, Bool, true, false, not, cond, nat_lt, List, [], ◌∷◌, length, take, drop, map, get_or, Some, None, sym, ap, arith, append-nil, add-one, drop-cons}
+use Rattle.std.specs.List.{filter, filter_map, position, position_or_len}
 use Rattle.std.proofs.lemmas.Bool.{lt-ltb, le-ltb}
 use Rattle.std.proofs.lemmas.List.{map_more, length-map}
 use Rattle.std.proofs.lemmas.List.Elements.{filter-append, filter_map-append}
 use Rattle.serde_json.specs.Data.{Data}
 use Rattle.serde_json.specs.View.{view}
 use Rattle.serde_json.specs.declared.value.Value.{Value}
-use Rattle.hb_text.specs.declared.digests.Digest.{Digest}
 use Rattle.hb_manifest.specs.MediaTypes.{is_nondistributable}
 use Rattle.hb_manifest.specs.Descriptors.{descriptor}
 use Rattle.hb_manifest.specs.Forms.{needed}

@@ -1,8 +1,7 @@
 -- Digests, each once: one more at the end, none of them twice, and none of them lost.
 use Rattle.std.proofs.Common.{ℕ, arith, ◌≡◌, ◌≢◌, ◌∙◌, ◌++◌, ◌||◌, Bool, true, false, not, cond, List, [], ◌∷◌, refl, sym, ap, append-nil}
-use Rattle.std.specs.List.{list_any, filter, Contains, AllPairs, All}
+use Rattle.std.specs.List.{list_any, filter, AllPairs}
 use Rattle.std.specs.Bool.{Decides, one_answer}
-use Rattle.std.specs.Cmp.{IsEquivalence}
 use Rattle.std.proofs.lemmas.Bool.{not-true, true≢false}
 use Rattle.std.proofs.lemmas.Slice.Eq.{bytes_eq-Decides}
 use Rattle.std.proofs.lemmas.List.Elements.{filter-append, filter_passes}

@@ -1,21 +1,21 @@
 -- What stands behind each step that refused nothing.
-use Rattle.std.proofs.Common.{◌≡◌, ◌<◌, ◌≤◌, ◌∙◌, ℕ, Bool, true, false, not, cond, nat_lt, nat_eq, List, length, get_or, Option, Some, None, Result, Ok, Err, refl, sym, ap, arith}
-use Rattle.std.specs.Prelude.{codes, IsSome, is_none, ok_or, option_and_then}
+use Rattle.std.proofs.Common.{◌≡◌, ℕ, Bool, true, false, not, cond, nat_lt, nat_eq, List, length, Option, Some, None, Result, Ok, Err, refl, sym, ap, arith}
+use Rattle.std.specs.Prelude.{IsSome, is_none, ok_or, option_and_then}
 use Rattle.std.specs.Option.{option_map_or, option_map}
 use Rattle.std.specs.Result.{result_unwrap_or}
-use Rattle.std.specs.List.{All, position, position_or_len}
-use Rattle.std.proofs.lemmas.Bool.{ltb-false, not-false, eqb-true, true≢false, false≢true}
+use Rattle.std.specs.List.{All, position_or_len}
+use Rattle.std.proofs.lemmas.Bool.{ltb-false, not-false, eqb-true, true≢false}
 use Rattle.std.proofs.lemmas.List.Sums.{fails_before_first}
 use Rattle.std.proofs.lemmas.Option.{none-some, same_Some}
 use Rattle.serde_json.specs.Data.{Data, Members}
 use Rattle.serde_json.specs.Find.{as_object}
 use Rattle.hb_manifest.specs.declared.manifests.Manifest.{Manifest}
 use Rattle.hb_manifest.specs.declared.manifests.ManifestFault.{ManifestFault}
-use Rattle.hb_manifest.specs.declared.manifests.ManifestFault.TheVariants.{MediaUnknown, NotJson, NoSchema, BadDescriptor, TooMany, TooLong}
-use Rattle.hb_manifest.specs.Json.{json_of, when_object, whole_at}
+use Rattle.hb_manifest.specs.declared.manifests.ManifestFault.TheVariants.{MediaUnknown, NotJson, NoSchema, TooMany, TooLong}
+use Rattle.hb_manifest.specs.Json.{json_of, when_object}
 use Rattle.hb_manifest.specs.MediaTypes.{media_type, kind_of}
 use Rattle.hb_manifest.specs.Descriptors.{descriptor}
-use Rattle.hb_manifest.specs.Forms.{◌>>=◌, refused_if, refused_at, has_schema, listed, bad_place, checked, refs, children, subject, object_form, manifest_form}
+use Rattle.hb_manifest.specs.Forms.{◌>>=◌, refused_if, refused_at, has_schema, listed, bad_place, checked, refs, children, subject, manifest_form}
 use Rattle.hb_manifest.specs.Laws.{IsManifest}
 use Rattle.hb_manifest.proofs.Contained.{refs-each, children-each}
 

@@ -1,5 +1,5 @@
 -- Content descriptors (OCI Image Specification 1.1, "OCI Content Descriptors").
-use Rattle.std.specs.Prelude.{◌^◌, ℕ, Bool, true, false, nat_le, List, codes, drop, bytes_eq, Option, Some, None, option_and_then, if◌then◌else◌}
+use Rattle.std.specs.Prelude.{◌^◌, ℕ, Bool, false, nat_le, List, codes, drop, bytes_eq, Option, Some, None, option_and_then, if◌then◌else◌}
 use Rattle.std.specs.Option.{option_map_or}
 use Rattle.std.specs.Result.{result_ok}
 use Rattle.hex.specs.Hex.{decode_sized}

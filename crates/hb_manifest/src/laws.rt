@@ -1,7 +1,8 @@
 //! Laws of the definitions, each the contract of a function that does nothing.
-ghost use Rattle.std.specs.Prelude.{◌≡◌, ◌↔◌, ℕ, List, Option, Some, Ok};
+ghost use Rattle.std.specs.Prelude.{◌≡◌, ◌≢◌, ◌↔◌, ℕ, List, Option, Some, Ok, IfErr};
 ghost use Rattle.hb_text.specs.declared.digests.Digest.{Digest};
 ghost use Rattle.hb_manifest.specs.declared.manifests.Manifest.{Manifest};
+ghost use Rattle.hb_manifest.specs.declared.manifests.ManifestFault.{ManifestFault};
 ghost use Rattle.hb_manifest.specs.Descriptors.{digest_in};
 ghost use Rattle.hb_manifest.specs.Forms.{manifest_form};
 ghost use Rattle.hb_manifest.specs.Laws.{IsTextOf, IsManifest};
@@ -17,4 +18,9 @@ pub fn digests_have_one_text()
 /// digests of the descriptors that count for them.
 pub fn manifests_are_sound()
     ensures { (header : Option (List ℕ)) (bytes : List ℕ) (m : Manifest) → manifest_form header bytes ≡ Ok m → IsManifest header bytes m }
+{}
+
+/// Each refusal of the definition names a cause in the manifest. Want of memory is none.
+pub fn refusals_have_a_cause()
+    ensures { (header : Option (List ℕ)) (bytes : List ℕ) → IfErr (manifest_form header bytes) (λ e. e ≢ ManifestFault.Memory) }
 {}

@@ -14,8 +14,8 @@ fn has(digests: &[Digest], digest: Digest) -> bool
     digests.iter().any(|other| digest.0 == other.0)
 }
 
-/// Adds a digest at the end, where it isn't in the list yet. A manifest has so few that looking through
-/// them takes less than reading its JSON.
+/// Adds a digest at the end, where it isn't in the list yet. It looks through all of them, which are at most
+/// [`MAX_DESCRIPTORS`](crate::MAX_DESCRIPTORS).
 pub(crate) fn add_once(list: &mut DigestList, digest: Digest) -> Result<(), Memory>
     ensures { OnOk result ((all : List Digest) → list.old ≡ each_once all → list.new ≡ each_once (all ++ digest ∷ [])) }
 {

@@ -1,6 +1,6 @@
 //! Manifests good and bad: those of the specifications, hostile ones, and ones at their limits.
 
-use crate::laws::{digests_have_one_text, manifests_are_sound};
+use crate::laws::{digests_have_one_text, manifests_are_sound, refusals_have_a_cause};
 use crate::{
     DigestList, MAX_BLOB, MAX_DESCRIPTORS, MAX_MANIFEST, Manifest, ManifestFault, read_manifest,
 };
@@ -890,4 +890,5 @@ fn faults(rt: HostRuntime) -> Result<(), Fail> {
 fn laws_hold(_rt: HostRuntime) {
     digests_have_one_text();
     manifests_are_sound();
+    refusals_have_a_cause();
 }
