@@ -15,7 +15,7 @@ use Rattle.hb_manifest.specs.declared.manifests.ManifestFault.TheVariants.{Media
 use Rattle.hb_manifest.specs.Json.{json_of, when_object}
 use Rattle.hb_manifest.specs.MediaTypes.{media_type, kind_of}
 use Rattle.hb_manifest.specs.Descriptors.{descriptor}
-use Rattle.hb_manifest.specs.Forms.{◌>>=◌, refused_if, refused_at, has_schema, listed, bad_place, checked, refs, children, subject, manifest_form}
+use Rattle.hb_manifest.specs.Forms.{◌>>=◌, most_bytes, most_descriptors, refused_if, refused_at, has_schema, listed, bad_place, checked, refs, children, subject, manifest_form}
 use Rattle.hb_manifest.specs.Laws.{IsManifest}
 use Rattle.hb_manifest.proofs.Contained.{refs-each, children-each}
 
@@ -63,7 +63,7 @@ same-ok m n e = ap (λ (r : Result Manifest ManifestFault). result_unwrap_or r m
 
 pub sound : (header : Option (List ℕ)) (bytes : List ℕ) (m : Manifest) → manifest_form header bytes ≡ Ok m → IsManifest header bytes m
 sound header bytes m e =
-    let short = bind-ok (refused_if (nat_lt 4194304 (length bytes)) TooLong) _ m e in
+    let short = bind-ok (refused_if (nat_lt most_bytes (length bytes)) TooLong) _ m e in
     let object = bind-ok (ok_or (option_and_then when_object (json_of bytes)) NotJson) _ m short.2 in
     let d = object.0 in
     let media = bind-ok (ok_or (media_type header d) MediaUnknown) _ m object.2 in
@@ -71,11 +71,11 @@ sound header bytes m e =
     let schema = bind-ok (refused_if (not (has_schema d)) NoSchema) _ m kind.2 in
     let parts = bind-ok (ok_or (listed kind.0 d) NoSchema) _ m schema.2 in
     let sound = bind-ok (checked parts.0) _ m parts.2 in
-    let few = bind-ok (refused_if (nat_lt 1000 (length parts.0)) TooMany) _ sound.0 sound.1 in
+    let few = bind-ok (refused_if (nat_lt most_descriptors (length parts.0)) TooMany) _ sound.0 sound.1 in
     let made : Manifest = record { media = media.0; refs = refs kind.0 parts.0; children = children kind.0 parts.0; subject = subject d } in
     let is : made ≡ m = same-ok made m sound.2 in
     rw (← is) (record {
-      short = ltb-false 4194304 (length bytes) (test-ok _ TooLong short.0 short.1);
+      short = ltb-false most_bytes (length bytes) (test-ok (nat_lt most_bytes (length bytes)) TooLong short.0 short.1);
       value = d;
       json = object-is (json_of bytes) d (some-ok _ NotJson d object.1);
       kind = kind.0;
@@ -84,8 +84,8 @@ sound header bytes m e =
       schema = two-is _ (test-ok _ NoSchema schema.0 schema.1);
       descriptors = parts.0;
       lists = some-ok _ NoSchema parts.0 parts.1;
-      few = ltb-false 1000 (length parts.0) (test-ok _ TooMany few.0 few.1);
-      sound = all-sound parts.0 (place-ok _ sound.0 few.2);
+      few = ltb-false most_descriptors (length parts.0) (test-ok (nat_lt most_descriptors (length parts.0)) TooMany few.0 few.1);
+      sound = all-sound parts.0 (place-ok (bad_place parts.0) sound.0 few.2);
       refs = refs-each kind.0 parts.0;
       children = children-each kind.0 parts.0;
       about = refl;
