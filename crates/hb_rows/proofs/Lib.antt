@@ -1,0 +1,4 @@
+mod ChangeOrder
+mod KeysRise
+mod PageRows
+mod Room
