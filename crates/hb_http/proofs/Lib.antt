@@ -3,6 +3,7 @@ pub mod HeadLaws
 pub mod HeaderLimit
 pub mod HeaderValues
 pub mod LineCounts
+pub mod Phrases
 pub mod RequestLaws
 pub mod Said
 pub mod Targets

@@ -1,7 +1,11 @@
 -- What values say together, with one value more.
-use Rattle.std.proofs.Common.{◌≡◌, ◌∙◌, ℕ, List, [], ◌∷◌, ◌++◌, refl, sym}
+use Rattle.std.proofs.Common.{◌≡◌, ◌≢◌, ◌∙◌, ℕ, List, [], ◌∷◌, ◌++◌, refl, sym, subst, ⊎_elim}
+use Rattle.std.proofs.lemmas.Bool.{cases_eq}
 use Rattle.std.specs.List.{AllByRecursion}
 use Rattle.hb_text.specs.Numbers.{IsNumber}
+use Rattle.hb_http.specs.BodyHeaders.{SayLength}
+use Rattle.hb_http.specs.declared.framing.LengthSaid.{LengthSaid}
+use Rattle.hb_http.specs.declared.framing.LengthSaid.TheVariants.{Everywhere, Unclear}
 
 -- what holds of each value holds of those before the last
 pub all_but_last : (P : List ℕ → Type 0) (xs : List (List ℕ)) (y : List ℕ) → AllByRecursion P (xs ++ y ∷ []) → AllByRecursion P xs
@@ -21,3 +25,28 @@ one_number text n m a b = sym a.value ∙ b.value
 pub one_length : (values : List (List ℕ)) (n m : ℕ) → (values ≡ [] → n ≡ m) → AllByRecursion (λ value. IsNumber value n) values → AllByRecursion (λ value. IsNumber value m) values → n ≡ m
 one_length [] n m none a b = none refl
 one_length (value ∷ values) n m none a b = one_number value n m a.0 b.0
+
+-- what holds of each value and of one more holds of each of them all
+all_push : (P : List ℕ → Type 0) (xs : List (List ℕ)) (y : List ℕ) → AllByRecursion P xs → P y → AllByRecursion P (xs ++ y ∷ [])
+all_push P [] y all here = (here, tt)
+all_push P (x ∷ xs) y all here = (all.0, all_push P xs y all.1 here)
+
+-- there is one
+some_push : (xs : List (List ℕ)) (y : List ℕ) → xs ++ y ∷ [] ≢ []
+some_push [] y e = cc
+some_push (x ∷ xs) y e = cc
+
+-- what values say with one more, by whether it is the number before
+pub say_both : (values : List (List ℕ)) (value : List ℕ) (before after : ℕ) (said : LengthSaid) → SayLength values (Everywhere before) → IsNumber value after
+    → (before ≡ after → said ≡ Everywhere after) → (before ≢ after → said ≡ Unclear) → SayLength (values ++ value ∷ []) said
+say_both values value before after said first second same other = ⊎_elim
+    (λ e.
+    let number : IsNumber value before = subst (IsNumber value) (sym e) second in
+    let all : SayLength (values ++ value ∷ []) (Everywhere before) = (some_push values value, all_push (λ v. IsNumber v before) values value first.1 number) in
+    subst (SayLength (values ++ value ∷ [])) (sym (same e)) (subst (λ (n : ℕ). SayLength (values ++ value ∷ []) (Everywhere n)) e all))
+    (λ apart.
+    let unclear : SayLength (values ++ value ∷ []) Unclear = λ n all.
+    let told = one_length values before n (λ e. absurd (first.0 e)) first.1 (all_but_last (λ v. IsNumber v n) values value all) in
+    apart (told ∙ one_number value n after (all_last (λ v. IsNumber v n) values value all) second) in
+    subst (SayLength (values ++ value ∷ [])) (sym (other apart)) unclear)
+    (cases_eq before after)

@@ -1,3 +1,4 @@
+pub mod AnswerHeads
 pub mod BodyHeaders
 pub mod Framing
 pub mod Headers

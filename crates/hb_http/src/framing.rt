@@ -1,4 +1,4 @@
-ghost use Rattle.std.specs.Prelude.{◌≡◌, ◌∷◌, ◌++◌, [], ℕ, List, length, map, All, Some, IfNone};
+ghost use Rattle.std.specs.Prelude.{◌≡◌, ◌≢◌, ◌∷◌, ◌++◌, [], ℕ, List, length, map, All, Some, IfNone};
 ghost use Rattle.httparse.specs.Spans.{IsHeaderWithin, header_bytes};
 ghost use Rattle.hb_http.specs.BodyHeaders.{SayLength, SayCoding};
 ghost use Rattle.hb_http.specs.Framing.{HasLength, IsChunked, IsFramed, is_last, lengths, codings, says_close};
@@ -53,6 +53,18 @@ fn is_named(bytes: &[u8], header: HeaderSpan, name: &[u8]) -> bool
     is_same(header.name.of(bytes), name)
 }
 
+/// What two lengths say together.
+fn both_said(before: u64, length: u64) -> LengthSaid
+    ensures same { before ≡ length → result ≡ LengthSaid.Everywhere length }
+    ensures other { before ≢ length → result ≡ LengthSaid.Unclear }
+{
+    if before == length {
+        LengthSaid::Everywhere(length)
+    } else {
+        LengthSaid::Unclear
+    }
+}
+
 /// What the Content-Length headers say with one value more.
 fn with_length(said: LengthSaid, value: &[u8]) -> LengthSaid
     ensures { (values : List (List ℕ)) → SayLength values said → SayLength (values ++ value.now ∷ []) result }
@@ -62,13 +74,7 @@ fn with_length(said: LengthSaid, value: &[u8]) -> LengthSaid
     };
     match said {
         LengthSaid::Nowhere => LengthSaid::Everywhere(length),
-        LengthSaid::Everywhere(before) => {
-            if before == length {
-                LengthSaid::Everywhere(length)
-            } else {
-                LengthSaid::Unclear
-            }
-        }
+        LengthSaid::Everywhere(before) => both_said(before, length),
         LengthSaid::Unclear => LengthSaid::Unclear,
     }
 }

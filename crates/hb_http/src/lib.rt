@@ -13,6 +13,7 @@
 //! The grammar of a head is the one of `httparse` (RFC 9112, sections 2 to 5).
 #![tactic(auto)]
 
+mod answers;
 mod framing;
 mod header_lines;
 mod heads;
@@ -21,6 +22,7 @@ mod start_lines;
 #[cfg(test)]
 mod tests;
 
+pub use answers::{AnswerHead, has_phrase, write_head};
 pub use framing::{Framing, framing_of, is_last};
 pub use heads::{Front, read_head};
 

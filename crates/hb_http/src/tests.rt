@@ -1,5 +1,11 @@
+ghost use Rattle.std.specs.Prelude.{◌≡◌};
+
 use crate::laws::{Reading, front_stays, no_request, one_framing, one_front, one_reading};
-use crate::{Framing, Front, MAX_HEAD, MAX_HEADERS, framing_of, is_last, read_head};
+use crate::{
+    AnswerHead, Framing, Front, MAX_HEAD, MAX_HEADERS, framing_of, has_phrase, is_last, read_head,
+    write_head,
+};
+use hb_text::{Digest, Memory, Text};
 use httparse::spans::EMPTY_HEADER_SPAN;
 use std::alloc::{AllocError, Global};
 use std::test::Fail;
@@ -212,4 +218,83 @@ fn laws_hold() {
     one_framing();
     one_front();
     front_stays();
+}
+
+/// The head of an answer with a status alone.
+fn bare_head(status: u16) -> AnswerHead
+    ensures { result.status ≡ status }
+{
+    AnswerHead {
+        status,
+        close: false,
+        length: None,
+        media: None,
+        digest: None,
+        link: None,
+        location: None,
+        range: None,
+        retry: None,
+    }
+}
+
+/// The text of such a head, where the status has a phrase.
+fn bare_text(alloc: Global, status: u16) -> Result<Option<Text>, Memory> {
+    if !has_phrase(status) {
+        return Ok(None);
+    }
+    Ok(Some(write_head(alloc, &bare_head(status))?))
+}
+
+#[test]
+fn phrases(rt: HostRuntime) -> Result<(), Fail> {
+    let rows: [(u16, &[u8]); 15] = [
+        (200, b"HTTP/1.1 200 OK\r\n\r\n"),
+        (201, b"HTTP/1.1 201 Created\r\n\r\n"),
+        (202, b"HTTP/1.1 202 Accepted\r\n\r\n"),
+        (204, b"HTTP/1.1 204 No Content\r\n\r\n"),
+        (400, b"HTTP/1.1 400 Bad Request\r\n\r\n"),
+        (403, b"HTTP/1.1 403 Forbidden\r\n\r\n"),
+        (404, b"HTTP/1.1 404 Not Found\r\n\r\n"),
+        (405, b"HTTP/1.1 405 Method Not Allowed\r\n\r\n"),
+        (412, b"HTTP/1.1 412 Precondition Failed\r\n\r\n"),
+        (413, b"HTTP/1.1 413 Payload Too Large\r\n\r\n"),
+        (416, b"HTTP/1.1 416 Range Not Satisfiable\r\n\r\n"),
+        (431, b"HTTP/1.1 431 Request Header Fields Too Large\r\n\r\n"),
+        (500, b"HTTP/1.1 500 Internal Server Error\r\n\r\n"),
+        (503, b"HTTP/1.1 503 Service Unavailable\r\n\r\n"),
+        (507, b"HTTP/1.1 507 Insufficient Storage\r\n\r\n"),
+    ];
+    for (status, want) in rows {
+        let want = Text::new(rt.alloc(), want)?;
+        assert_eq!(rt; bare_text(rt.alloc(), status)?, Some(want), "{status}");
+    }
+    for status in [0u16, 100, 199, 203, 304, 418, 501, 999, 65_535] {
+        assert!(rt; !has_phrase(status), "{status}");
+    }
+    Ok(())
+}
+
+#[test]
+fn heads_of_answers(rt: HostRuntime) -> Result<(), Fail> {
+    let alloc = rt.alloc();
+    let mut head = bare_head(503);
+    head.close = true;
+    head.length = Some(u64::MAX);
+    head.media = Some(Text::new(alloc, b"application/json")?);
+    head.digest = Some(Digest::of(b"abc"));
+    head.link = Some(Text::new(alloc, b"</v2/>; rel=\"next\"")?);
+    head.location = Some(Text::new(alloc, b"/v2/library/a/blobs/uploads/2")?);
+    head.range = Some(Text::new(alloc, b"0-2")?);
+    head.retry = Some(0);
+    let want = Text::new(
+        alloc,
+        b"HTTP/1.1 503 Service Unavailable\r\nConnection: close\r\nContent-Length: 18446744073709551615\r\nContent-Type: application/json\r\nDocker-Content-Digest: sha256:ba7816bf8f01cfea414140de5dae2223b00361a396177a9cb410ff61f20015ad\r\nLink: </v2/>; rel=\"next\"\r\nLocation: /v2/library/a/blobs/uploads/2\r\nRange: 0-2\r\nRetry-After: 0\r\n\r\n",
+    )?;
+    assert_eq!(rt; write_head(alloc, &head)?, want);
+    let mut empty = bare_head(204);
+    empty.length = Some(0);
+    empty.range = Some(Text::new(alloc, b"0-0")?);
+    let want = Text::new(alloc, b"HTTP/1.1 204 No Content\r\nRange: 0-0\r\n\r\n")?;
+    assert_eq!(rt; write_head(alloc, &empty)?, want);
+    Ok(())
 }
