@@ -1,3 +1,8 @@
+pub mod ChunkFronts
+pub mod ChunkLaws
+pub mod ChunkRuns
+pub mod ChunkSizes
+pub mod ChunkSteps
 pub mod FramingLaws
 pub mod HeadLaws
 pub mod HeaderLimit

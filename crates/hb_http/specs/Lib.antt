@@ -1,5 +1,7 @@
 pub mod AnswerHeads
 pub mod BodyHeaders
+pub mod ChunkPlaces
+pub mod Chunks
 pub mod Framing
 pub mod Headers
 pub mod Heads

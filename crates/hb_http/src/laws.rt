@@ -1,6 +1,9 @@
 //! Laws of the definitions, each the contract of a function that does nothing.
-ghost use Rattle.std.specs.Prelude.{◌≡◌, ◌≤◌, ◌++◌, ℕ, List, length};
+ghost use Rattle.std.specs.Prelude.{◌≡◌, ◌≤◌, ◌++◌, [], ℕ, List, length};
 ghost use Rattle.httparse.specs.Grammar.{RequestHead};
+ghost use Rattle.hb_http.specs.ChunkPlaces.{body_start, data_after, place_after};
+ghost use Rattle.hb_http.specs.Chunks.{IsChunkedBody, NeverIsChunkedBody};
+ghost use Rattle.hb_http.specs.declared.chunk_places.ChunkPlace.{ChunkPlace};
 ghost use Rattle.hb_http.specs.Framing.{HasLength, IsChunked};
 ghost use Rattle.hb_http.specs.Heads.{IsHead, HasNoHead, IsMalformed, NeverHasHead, HasTooManyHeaders, IsHeadTooLong, window};
 ghost use Rattle.hb_http.specs.declared.TheConstants.{MAX_HEAD};
@@ -53,4 +56,19 @@ pub fn no_request<R: Reading>()
     ensures none { (bytes : List ℕ) → HasNoHead bytes → HasNoRequest R.ends bytes }
     ensures malformed { (bytes : List ℕ) → IsMalformed bytes → HasNoRequest R.ends bytes }
     ensures many { (bytes : List ℕ) → HasTooManyHeaders bytes → HasNoRequest R.ends bytes }
+{}
+
+/// A reader of bodies in chunks comes to the end of one exactly over the bytes of one, and has its data
+/// then. It comes to where there is none exactly over bytes that no others can follow to make one.
+pub fn chunks_are_read()
+    ensures read { (bytes content : List ℕ) → IsChunkedBody bytes content → (place_after body_start bytes ≡ ChunkPlace.Over) × (data_after body_start bytes ≡ content) }
+    ensures whole { (bytes : List ℕ) → place_after body_start bytes ≡ ChunkPlace.Over → IsChunkedBody bytes (data_after body_start bytes) }
+    ensures bad { (bytes : List ℕ) → place_after body_start bytes ≡ ChunkPlace.Bad → NeverIsChunkedBody bytes }
+    ensures never { (bytes : List ℕ) → NeverIsChunkedBody bytes → place_after body_start bytes ≡ ChunkPlace.Bad }
+{}
+
+/// No body in chunks is a proper front of another, and each has one data.
+pub fn one_chunked_body()
+    ensures front { (bytes more content other : List ℕ) → IsChunkedBody bytes content → IsChunkedBody (bytes ++ more) other → more ≡ [] }
+    ensures content { (bytes content other : List ℕ) → IsChunkedBody bytes content → IsChunkedBody bytes other → content ≡ other }
 {}

@@ -3,17 +3,26 @@
 //! - [`read_head`]: the head at the front of some bytes, within [`MAX_HEAD`] and [`MAX_HEADERS`], and
 //!   which refusal stands there in its place. [`framing_of`] says where its body ends, and [`is_last`]
 //!   whether the connection closes behind it. None of them takes memory.
+//! - [`write_head`]: the text of an answer's head.
+//! - [`ChunkPlace`]: where a reader stands in a body in chunks. It goes on byte by byte over lines, and by
+//!   whole pieces over data, and takes no memory.
 //! - [`laws`]: what holds of the definitions. There is one front, one framing and one reading of some
-//!   bytes, and a front stays whatever follows, so it doesn't matter in which pieces the bytes came.
+//!   bytes, and a front stays whatever follows, so it doesn't matter in which pieces the bytes came. A
+//!   reader of bodies in chunks reads exactly these.
 //! - `specs/Requests`: the requests that bytes are, up to the first that closes, for every way to say
 //!   where a request ends. `specs/Heads`, `specs/Framing`, `specs/Headers`: heads within the limits,
 //!   where their bodies end, and whether they ask to close.
+//! - `specs/Chunks`: bodies in chunks, as a grammar. `specs/ChunkPlaces`: the same, byte by byte.
+//! - `specs/AnswerHeads`: the text of an answer's head.
 //! - `specs/WholeLines`, `specs/Reaches`, `specs/BodyHeaders`: what the private functions say.
 //!
 //! The grammar of a head is the one of `httparse` (RFC 9112, sections 2 to 5).
 #![tactic(auto)]
 
 mod answers;
+mod chunk_places;
+#[cfg(test)]
+mod chunk_tests;
 mod framing;
 mod header_lines;
 mod heads;
@@ -23,6 +32,7 @@ mod start_lines;
 mod tests;
 
 pub use answers::{AnswerHead, has_phrase, write_head};
+pub use chunk_places::ChunkPlace;
 pub use framing::{Framing, framing_of, is_last};
 pub use heads::{Front, read_head};
 
@@ -31,3 +41,7 @@ pub const MAX_HEAD: usize = 65_536;
 
 /// The most headers of a head.
 pub const MAX_HEADERS: usize = 100;
+
+/// The most bytes of a chunk line with its CR LF, and of the end of a body in chunks: its last line, its
+/// trailer lines and its empty line together.
+pub const MAX_CHUNK_LINE: usize = 65_536;
