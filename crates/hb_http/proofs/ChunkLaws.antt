@@ -69,7 +69,7 @@ pub whole_body : (bytes : List ℕ) → place_after body_start bytes ≡ Over �
 whole_body bytes over = subst (λ (p : ChunkPlace). IsFront p bytes (data_after body_start bytes)) over (front_of bytes)
 
 -- where there is no body ever, it stays so
-bad_stays : (more : List ℕ) → place_after Bad more ≡ Bad
+pub bad_stays : (more : List ℕ) → place_after Bad more ≡ Bad
 bad_stays [] = refl
 bad_stays (c ∷ more) = bad_stays more
 

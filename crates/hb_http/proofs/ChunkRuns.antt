@@ -8,7 +8,7 @@ use Rattle.std.proofs.lemmas.Bool.{and_from, cond-true, cond-false, ne_eqb, lt-l
 use Rattle.std.proofs.lemmas.List.{take_more}
 use Rattle.std.proofs.lemmas.List.Sums.{fold-append, fold_push}
 use Rattle.hb_http.specs.Chunks.{crlf, IsInline, IsExtension, IsChunkLine, IsChunk, IsTrailer, joined, IsBodyEnd, Chunk, texts_of, contents_of, IsChunkedBody}
-use Rattle.hb_http.specs.ChunkPlaces.{line_most, after_size, after_extension, after_line, after_data, chunk_step, place_after, body_start, data_at, data_after, IsStop}
+use Rattle.hb_http.specs.ChunkPlaces.{line_most, after_size, after_extension, after_line, after_data, chunk_step, place_after, body_start, data_at, data_after, AreLines, IsStop}
 use Rattle.hb_http.specs.WholeLines.{is_newline}
 use Rattle.hb_http.specs.declared.TheConstants.{MAX_CHUNK_LINE}
 use Rattle.hb_http.specs.declared.chunk_places.ChunkPlace.{ChunkPlace}
@@ -87,17 +87,25 @@ no_data : (p : ChunkPlace) (c : ℕ) → ¬ (IsStop p) → data_at p c ≡ []
 no_data (Data left) c on = absurd (on tt)
 no_data p c on = refl
 
+-- among lines there is no data
+pub lines_no_data : (p : ChunkPlace) (lines : List ℕ) → AreLines p lines → data_after p lines ≡ []
+lines_no_data p [] are = refl
+lines_no_data p (c ∷ cs) are = λ i. no_data p c are.0 i ++ lines_no_data (chunk_step p c) cs are.1 i
+
+-- lines with one byte more
+lines_push : (p : ChunkPlace) (lines : List ℕ) (c : ℕ) → AreLines p lines → ¬ (IsStop (place_after p lines)) → AreLines p (lines ++ c ∷ [])
+lines_push p [] c are on = (on, tt)
+lines_push p (b ∷ lines) c are on = (are.0, lines_push (chunk_step p b) lines c are.1 on)
+
 -- one byte more of the lines of a text
-pub one_more : (start now next : ChunkPlace) (bytes : List ℕ) (n : ℕ) → n < length bytes → now ≡ place_after start (take n bytes) → data_after start (take n bytes) ≡ []
+pub one_more : (start now next : ChunkPlace) (bytes : List ℕ) (n : ℕ) → n < length bytes → now ≡ place_after start (take n bytes) → AreLines start (take n bytes)
     → ¬ (IsStop now) → next ≡ chunk_step now (get_or bytes n 0)
-    → (next ≡ place_after start (take (n + 1) bytes)) × (data_after start (take (n + 1) bytes) ≡ [])
-one_more start now next bytes n within here quiet on step =
+    → (next ≡ place_after start (take (n + 1) bytes)) × AreLines start (take (n + 1) bytes)
+one_more start now next bytes n within here are on step =
     let byte : ℕ = get_or bytes n 0 in
-    let more : take (n + 1) bytes ≡ take n bytes ++ byte ∷ [] = take_more bytes n 0 within in
-    let none : data_at (place_after start (take n bytes)) byte ≡ [] = ap (λ (p : ChunkPlace). data_at p byte) (sym here) ∙ no_data now byte on in (
+    let more : take (n + 1) bytes ≡ take n bytes ++ byte ∷ [] = take_more bytes n 0 within in (
       step ∙ (ap (λ (p : ChunkPlace). chunk_step p byte) here ∙ sym (ap (place_after start) more ∙ fold_push chunk_step start (take n bytes) byte)),
-      ap (data_after start) more ∙ (data_after-append start (take n bytes) (byte ∷ [])
-          ∙ ((λ i. quiet i ++ (none i ++ [])))),
+      subst (AreLines start) (sym more) (lines_push start (take n bytes) byte are (λ stop. on (subst IsStop (sym here) stop))),
     )
 
 -- the CR LF behind a chunk line

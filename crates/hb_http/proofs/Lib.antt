@@ -8,6 +8,10 @@ pub mod HeadLaws
 pub mod HeaderLimit
 pub mod HeaderValues
 pub mod LineCounts
+pub mod OneReading
+pub mod PartLemmas
+pub mod PartRequests
+pub mod PartsRead
 pub mod Phrases
 pub mod RequestLaws
 pub mod Said

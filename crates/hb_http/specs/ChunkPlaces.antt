@@ -94,3 +94,8 @@ IsStop (Data left) = Unit {0}
 IsStop Over = Unit {0}
 IsStop Bad = Unit {0}
 IsStop place = ⊥
+
+-- each byte is read where lines are read on, so none is data, and a body ends with the last or not at all
+abbrev pub AreLines : ChunkPlace → List ℕ → Type 0
+AreLines place [] = Unit {0}
+AreLines place (c ∷ cs) = (¬ (IsStop place)) × AreLines (chunk_step place c) cs

@@ -5,6 +5,11 @@ pub mod Chunks
 pub mod Framing
 pub mod Headers
 pub mod Heads
+pub mod Parts
 pub mod Reaches
+pub mod Readings
 pub mod Requests
+pub mod SessionPlaces
+pub mod Standing
+pub mod Told
 pub mod WholeLines

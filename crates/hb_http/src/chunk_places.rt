@@ -1,7 +1,7 @@
 //! A body in chunks, read byte by byte (RFC 9112, section 7.1).
 ghost use Rattle.std.specs.Prelude.{◌≡◌, ◌⊎◌, ◌↔◌, ◌≤◌, ◌<◌, ◌-◌, ◌==◌, [], length, take, Some, None, IsTrue, true, false, if◌then◌else◌};
 ghost use Rattle.std.specs.Char.{digit_value, is_ascii_hexdigit};
-ghost use Rattle.hb_http.specs.ChunkPlaces.{IsPlace, IsStop, after_extension, after_line, after_only, after_size, after_trailer, chunk_step, data_after, line_most, place_after};
+ghost use Rattle.hb_http.specs.ChunkPlaces.{AreLines, IsPlace, IsStop, after_extension, after_line, after_only, after_size, after_trailer, chunk_step, line_most, place_after};
 
 use crate::MAX_CHUNK_LINE;
 
@@ -207,7 +207,7 @@ pub(crate) fn read_lines(place: ChunkPlace, bytes: &[u8]) -> (usize, ChunkPlace)
     requires { IsPlace place }
     ensures within { result.0 ≤ length bytes.now }
     ensures value { result.1 ≡ place_after place (take result.0 bytes.now) }
-    ensures no_data { data_after place (take result.0 bytes.now) ≡ [] }
+    ensures lines { AreLines place (take result.0 bytes.now) }
     ensures stops { IsStop result.1 ⊎ (result.0 ≡ length bytes.now) }
     ensures place { IsPlace result.1 }
 {

@@ -46,7 +46,7 @@ fn is_same(a: &[u8], b: &[u8]) -> bool
 }
 
 /// Whether the header has this name.
-fn is_named(bytes: &[u8], header: HeaderSpan, name: &[u8]) -> bool
+pub(crate) fn is_named(bytes: &[u8], header: HeaderSpan, name: &[u8]) -> bool
     requires { IsHeaderWithin (length bytes.now) header }
     ensures { result ≡ same_ignoring_case (header_bytes bytes.now header).0 name.now }
 {

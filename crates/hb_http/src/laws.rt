@@ -1,5 +1,6 @@
 //! Laws of the definitions, each the contract of a function that does nothing.
-ghost use Rattle.std.specs.Prelude.{◌≡◌, ◌≤◌, ◌++◌, [], ℕ, List, length};
+ghost use Rattle.std.specs.Prelude.{◌≡◌, ◌≤◌, ◌++◌, [], ℕ, List, length, None};
+ghost use Rattle.std.specs.List.{AllByRecursion, flat_map};
 ghost use Rattle.httparse.specs.Grammar.{RequestHead};
 ghost use Rattle.hb_http.specs.ChunkPlaces.{body_start, data_after, place_after};
 ghost use Rattle.hb_http.specs.Chunks.{IsChunkedBody, NeverIsChunkedBody};
@@ -7,7 +8,11 @@ ghost use Rattle.hb_http.specs.declared.chunk_places.ChunkPlace.{ChunkPlace};
 ghost use Rattle.hb_http.specs.Framing.{HasLength, IsChunked};
 ghost use Rattle.hb_http.specs.Heads.{IsHead, HasNoHead, IsMalformed, NeverHasHead, HasTooManyHeaders, IsHeadTooLong, window};
 ghost use Rattle.hb_http.specs.declared.TheConstants.{MAX_HEAD};
-ghost use Rattle.hb_http.specs.Requests.{Request, HasNoRequest, RequestsOf};
+ghost use Rattle.hb_http.specs.Parts.{IsBad};
+ghost use Rattle.hb_http.specs.Readings.{AreRequests, Given, HasRead, IsBodyText, all_given};
+ghost use Rattle.hb_http.specs.Requests.{Request, HasNoRequest, RequestsOf, request_text};
+ghost use Rattle.hb_http.specs.declared.places.Place.{Place};
+ghost use Rattle.std.specs.declared.option.Option.{Option};
 
 /// A way to say where requests end, and which of them close the connection.
 pub trait Reading {
@@ -71,4 +76,28 @@ pub fn chunks_are_read()
 pub fn one_chunked_body()
     ensures front { (bytes more content other : List ℕ) → IsChunkedBody bytes content → IsChunkedBody (bytes ++ more) other → more ≡ [] }
     ensures content { (bytes content other : List ℕ) → IsChunkedBody bytes content → IsChunkedBody bytes other → content ≡ other }
+{}
+
+/// The bytes that a session took say which requests were given, and as much of their data: two ways to
+/// say it are one.
+pub fn one_reading_of_parts()
+    ensures { (done others : List Given) (now other : Option Given) (taken : List ℕ) (place there : Place)
+        → HasRead done now taken place → HasRead others other taken there
+        → all_given done now ≡ all_given others other }
+{}
+
+/// Between two requests, those that were given are requests of the bytes that were taken, one for one,
+/// with the same heads and data. Where none of them closes the connection, they stand before the
+/// requests of whatever bytes follow.
+pub fn parts_are_requests<R: Reading>()
+    ensures { (done : List Given) (taken : List ℕ) → HasRead done None taken Place.Between
+        → (requests : List Request) × AreRequests done requests × (taken ≡ flat_map request_text requests)
+        × (AllByRecursion (λ r. ¬ (R.closes r.head r.body)) requests
+        → (more : List ℕ) (others : List Request) (rest : List ℕ) → RequestsOf IsBodyText R.closes more others rest
+        → RequestsOf IsBodyText R.closes (taken ++ more) (requests ++ others) rest) }
+{}
+
+/// Bytes for which a session answers `Bad` stay so, whatever follows.
+pub fn faults_stay()
+    ensures { (place : Place) (bytes more : List ℕ) → IsBad place bytes → IsBad place (bytes ++ more) }
 {}
