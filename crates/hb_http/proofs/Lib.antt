@@ -8,6 +8,7 @@ pub mod HeadLaws
 pub mod HeaderLimit
 pub mod HeaderValues
 pub mod LineCounts
+pub mod OnePart
 pub mod OneReading
 pub mod PartLemmas
 pub mod PartRequests

@@ -245,7 +245,7 @@ reads_on done now taken s (Ok (HeadPart told)) s' gives read = head_on done now 
 reads_on done now taken s (Ok Body) s' gives read = body_on done now taken s s' s.place gives read
 reads_on done now taken s (Ok BodyEnd) s' gives read = end_on done now taken s s' s.place gives read
 reads_on done now taken s (Ok NeedInput) s' gives read = need_on done now taken s s' s.place refl gives.1 gives.2 read
-reads_on done now taken s (Ok InputEnd) s' gives read = record { gone = []; done' = done; now' = now; text = sym (ap (λ (t : Standing). t.waiting) gives.3); follows = (refl, refl); reads = same_read done now taken s s' gives.3 read }
+reads_on done now taken s (Ok InputEnd) s' gives read = record { gone = []; done' = done; now' = now; text = sym (ap (λ (t : Standing). t.waiting) gives.4); follows = (refl, refl); reads = same_read done now taken s s' gives.4 read }
 reads_on done now taken s (Err Cut) s' gives read = record { gone = []; done' = done; now' = now; text = sym (ap (λ (t : Standing). t.waiting) gives.3); follows = (refl, refl); reads = same_read done now taken s s' gives.3 read }
 reads_on done now taken s (Err Bad) s' gives read = record { gone = []; done' = done; now' = now; text = sym (ap (λ (t : Standing). t.waiting) gives.1); follows = (refl, refl); reads = same_read done now taken s s' gives.1 read }
 reads_on done now taken s (Err TooManyHeaders) s' gives read = record { gone = []; done' = done; now' = now; text = sym (ap (λ (t : Standing). t.waiting) gives.2); follows = (refl, refl); reads = same_read done now taken s s' gives.2 read }

@@ -1,5 +1,5 @@
 //! Laws of the definitions, each the contract of a function that does nothing.
-ghost use Rattle.std.specs.Prelude.{◌≡◌, ◌≤◌, ◌++◌, [], ℕ, List, length, None};
+ghost use Rattle.std.specs.Prelude.{◌≡◌, ◌≢◌, ◌≤◌, ◌++◌, [], ℕ, List, length, None, Err, Result};
 ghost use Rattle.std.specs.List.{AllByRecursion, flat_map};
 ghost use Rattle.httparse.specs.Grammar.{RequestHead};
 ghost use Rattle.hb_http.specs.ChunkPlaces.{body_start, data_after, place_after};
@@ -8,9 +8,12 @@ ghost use Rattle.hb_http.specs.declared.chunk_places.ChunkPlace.{ChunkPlace};
 ghost use Rattle.hb_http.specs.Framing.{HasLength, IsChunked};
 ghost use Rattle.hb_http.specs.Heads.{IsHead, HasNoHead, IsMalformed, NeverHasHead, HasTooManyHeaders, IsHeadTooLong, window};
 ghost use Rattle.hb_http.specs.declared.TheConstants.{MAX_HEAD};
-ghost use Rattle.hb_http.specs.Parts.{IsBad};
+ghost use Rattle.hb_http.specs.Parts.{Gives, IsBad};
 ghost use Rattle.hb_http.specs.Readings.{AreRequests, Given, HasRead, IsBodyText, all_given};
 ghost use Rattle.hb_http.specs.Requests.{Request, HasNoRequest, RequestsOf, request_text};
+ghost use Rattle.hb_http.specs.Standing.{Standing};
+ghost use Rattle.hb_http.specs.declared.parts.HttpFault.{HttpFault};
+ghost use Rattle.hb_http.specs.declared.parts.Part.{Part};
 ghost use Rattle.hb_http.specs.declared.places.Place.{Place};
 ghost use Rattle.std.specs.declared.option.Option.{Option};
 
@@ -95,6 +98,14 @@ pub fn parts_are_requests<R: Reading>()
         × (AllByRecursion (λ r. ¬ (R.closes r.head r.body)) requests
         → (more : List ℕ) (others : List Request) (rest : List ℕ) → RequestsOf IsBodyText R.closes more others rest
         → RequestsOf IsBodyText R.closes (taken ++ more) (requests ++ others) rest) }
+{}
+
+/// A session that stands somewhere gives one part, or has one fault, and stands in one way behind it:
+/// want of memory aside, each cause excludes the others.
+pub fn one_part()
+    ensures { (s : Standing) (result other : Result Part HttpFault) (then there : Standing)
+        → Gives s result then → Gives s other there → result ≢ Err HttpFault.Memory → other ≢ Err HttpFault.Memory
+        → (result ≡ other) × (then ≡ there) }
 {}
 
 /// Bytes for which a session answers `Bad` stay so, whatever follows.

@@ -2,7 +2,7 @@
 
 ghost use Rattle.std.specs.Prelude.{◌<◌};
 
-use crate::laws::{Reading, faults_stay, one_reading_of_parts, parts_are_requests};
+use crate::laws::{Reading, faults_stay, one_part, one_reading_of_parts, parts_are_requests};
 use crate::{Head, HttpFault, MAX_HEAD, MAX_HEADERS, MAX_PIECE, Part, ROOM, Session};
 use hb_text::Text;
 use std::alloc::Global;
@@ -243,6 +243,31 @@ fn tells_chunks(rt: &impl Abort, alloc: Global, body: &[u8], want: &[u8]) -> Res
 }
 
 #[test]
+fn empty_lines(rt: HostRuntime) -> Result<(), Fail> {
+    let alloc = rt.alloc();
+    tells(&rt, alloc, b"", b"$")?;
+    tells(&rt, alloc, b"\r\n", b"!cut")?;
+    tells(
+        &rt,
+        alloc,
+        b"\r\n\nGET / HTTP/1.1\r\n\r\n",
+        b"[GET / - - 0];$",
+    )?;
+    tells(
+        &rt,
+        alloc,
+        b"GET / HTTP/1.1\r\n\r\n\r\n",
+        b"[GET / - - 0];!cut",
+    )?;
+    tells(
+        &rt,
+        alloc,
+        b"GET / HTTP/1.1\r\n\r\n\0",
+        b"[GET / - - 0];!bad",
+    )
+}
+
+#[test]
 fn odd_chunks(rt: HostRuntime) -> Result<(), Fail> {
     let alloc = rt.alloc();
     let rows: [&[u8]; 5] = [
@@ -346,6 +371,7 @@ fn laws_of_parts_hold() {
     one_reading_of_parts();
     parts_are_requests::<Never>();
     faults_stay();
+    one_part();
 }
 
 /// Requests none of which closes the connection.
