@@ -6,6 +6,7 @@ use Rattle.std.specs.List.{AllByRecursion}
 use Rattle.std.specs.Str.Parse.{digits_value}
 use Rattle.std.proofs.lemmas.Bool.{cond_both}
 use Rattle.std.proofs.lemmas.List.Concat.{flat_map-append}
+use Rattle.hb_http.proofs.Each.{all_push}
 use Rattle.hb_http.specs.Chunks.{IsInline, IsChunkSize, IsExtension, IsChunkLine, IsChunk, IsTrailer, joined, Chunk, texts_of, contents_of, AreChunks, IsChunkedBody}
 use Rattle.hb_http.specs.ChunkPlaces.{line_most}
 use Rattle.hb_http.specs.declared.TheConstants.{MAX_CHUNK_LINE}
@@ -121,11 +122,6 @@ IsFront (TrailerFeed used) b d = (begun : ℕ) × (begun + 1 ≡ used) × InTrai
 IsFront LastFeed b d = InLast b d
 IsFront Over b d = IsChunkedBody b d
 IsFront Bad b d = Unit {0}
-
--- what holds of each item and of one more holds of them all
-pub all_push : {A : Type 0} (P : A → Type 0) (xs : List A) (x : A) → AllByRecursion P xs → P x → AllByRecursion P (xs ++ x ∷ [])
-all_push P [] x all here = (here, tt)
-all_push P (y ∷ ys) x all here = (all.0, all_push P ys x all.1 here)
 
 -- a front that is longer by a byte
 pub longer : (b t : List ℕ) (c : ℕ) → b ≡ t → b ++ c ∷ [] ≡ t ++ c ∷ []

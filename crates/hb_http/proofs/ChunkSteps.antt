@@ -12,7 +12,8 @@ use Rattle.hb_http.specs.WholeLines.{is_newline}
 use Rattle.hb_http.specs.declared.TheConstants.{MAX_CHUNK_LINE}
 use Rattle.hb_http.specs.declared.chunk_places.ChunkPlace.{ChunkPlace}
 use Rattle.hb_http.specs.declared.chunk_places.ChunkPlace.TheVariants.{Size, Extension, LineFeed, Data, DataReturn, DataFeed, TrailerStart, Trailer, TrailerFeed, LastFeed, Over, Bad}
-use Rattle.hb_http.proofs.ChunkFronts.{IsFront, InSize, InExtension, InLineEnd, InData, InDataEnd, InTrailers, InTrailer, InLast, all_push, chunks_push, least_most, longer, most_most}
+use Rattle.hb_http.proofs.Each.{all_push}
+use Rattle.hb_http.proofs.ChunkFronts.{IsFront, InSize, InExtension, InLineEnd, InData, InDataEnd, InTrailers, InTrailer, InLast, chunks_push, least_most, longer, most_most}
 
 -- what holds for a byte that a test found
 at_byte : (c k : ℕ) (P : ℕ → Type 0) → (c == k) ≡ true → P k → P c
@@ -139,9 +140,6 @@ step_line_end size used c b d s =
     (cond_both (size == 0) _ _ (λ (p : ChunkPlace). IsFront p (b ++ 10 ∷ []) d) trailers content))
     (λ _. tt)
   where
-    line : List ℕ
-    line = s.ds ++ (s.extension ++ crlf)
-
     long : length (s.ds ++ (s.extension ++ crlf)) ≡ used + 1
     long = let count = s.count in omega (arith, length-append s.ds (s.extension ++ crlf), length-append s.extension crlf)
 

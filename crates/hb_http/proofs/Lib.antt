@@ -3,6 +3,7 @@ pub mod ChunkLaws
 pub mod ChunkRuns
 pub mod ChunkSizes
 pub mod ChunkSteps
+pub mod Each
 pub mod FramingLaws
 pub mod HeadLaws
 pub mod HeaderLimit

@@ -10,7 +10,8 @@ use Rattle.hb_http.specs.ChunkPlaces.{body_start, chunk_step, data_after, place_
 use Rattle.hb_http.specs.Chunks.{IsChunkedBody}
 use Rattle.hb_http.specs.Framing.{HasLength, IsChunked}
 use Rattle.hb_http.specs.Headers.{headers_of}
-use Rattle.hb_http.specs.Heads.{IsHead}
+use Rattle.hb_http.specs.Heads.{HasNoHead, IsHead}
+use Rattle.hb_http.specs.Parts.{HoldsNoPart}
 use Rattle.hb_http.specs.Readings.{AreWhole, Given, HasRead, IsBegun, IsBodyOf, IsWhole, all_given}
 use Rattle.hb_http.specs.declared.chunk_places.ChunkPlace.{ChunkPlace}
 use Rattle.hb_http.specs.declared.chunk_places.ChunkPlace.TheVariants.{Over, Bad as BadBody}
@@ -19,6 +20,7 @@ use Rattle.hb_http.specs.declared.places.Place.TheVariants.{Between, Counted, Ch
 use Rattle.hb_http.proofs.ChunkLaws.{bad_stays, no_front, one_content}
 use Rattle.hb_http.proofs.ChunkRuns.{run_body}
 use Rattle.hb_http.proofs.FramingLaws.{HasLength-not_chunked, HasLength-unique}
+use Rattle.hb_http.proofs.PartsRead.{begun_through, taken_on}
 use Rattle.hb_http.proofs.LineCounts.{fronts, print_is, start_line}
 
 -- the text of a head isn't empty
@@ -30,10 +32,6 @@ head_some h none =
   where
     no_line : (h : RequestHead) → length (start_line h) ≡ 0 → ⊥
     no_line h none =
-        let blank : List ℕ = print_blank h.blank in
-        let a : List ℕ = print_blank h.blank ++ h.method in
-        let b : List ℕ = (print_blank h.blank ++ h.method) ++ 32 ∷ h.target in
-        let c : List ℕ = ((print_blank h.blank ++ h.method) ++ 32 ∷ h.target) ++ 32 ∷ print_version h.minor in
         omega (
           arith,
           length-append (((print_blank h.blank ++ h.method) ++ 32 ∷ h.target) ++ 32 ∷ print_version h.minor) (print_end h.line_end),
@@ -144,18 +142,26 @@ begun_beside bytes g k (Chunked place) (Chunked other) x y =
     let both = request_unique bytes g.head k.head x.begun y.begun x.is_head.reads y.is_head.reads in
     same_given g k both.0 (sym x.content ∙ (ap (data_after body_start) both.1 ∙ y.content))
 
--- nothing was given of no bytes
-begun_nothing : (now : Option Given) (place : Place) → IsBegun place now [] → (done : List Given) → all_given done now ≡ done
-begun_nothing None place begun done = refl
-begun_nothing (Some g) Between begun done = absurd begun
-begun_nothing (Some g) (Counted left) begun done = absurd (no_head_in_nothing g.head g.content begun.0)
-begun_nothing (Some g) (Chunked place) begun done = absurd (no_head_in_nothing g.head begun.begun begun.is_head)
+-- what is behind whole requests: bytes that begin with no head, or a request that is begun
+abbrev pub IsRest : Option Given → List ℕ → Type 0
+IsRest None rest = HasNoHead rest
+IsRest (Some g) rest = (place : Place) × IsBegun place (Some g) rest
 
-given_nothing : (done : List Given) (now : Option Given) (place : Place) (whole begun : List ℕ) → whole ++ begun ≡ [] → AreWhole done whole → IsBegun place now begun → all_given done now ≡ []
-given_nothing [] now place whole begun none all is =
-    let here : begun ≡ [] = ap (λ (t : List ℕ). t ++ begun) (sym all) ∙ none in begun_nothing now place (subst (IsBegun place now) here is) []
-given_nothing (g ∷ gs) now place whole begun none all is =
-    let sizes : length whole + length begun ≡ 0 = sym (length-append whole begun) ∙ ap length none in
+-- where a request is begun there is its head
+head_of_begun : (place : Place) (g : Given) (bytes : List ℕ) → IsBegun place (Some g) bytes → (rest : List ℕ) × IsHead bytes g.head rest
+head_of_begun Between g bytes begun = absurd begun
+head_of_begun (Counted left) g bytes begun = (g.content, begun.0)
+head_of_begun (Chunked place) g bytes begun = (begun.begun, begun.is_head)
+
+-- nothing was given of no bytes
+given_nothing : (done : List Given) (now : Option Given) (whole rest : List ℕ) → whole ++ rest ≡ [] → AreWhole done whole → IsRest now rest → all_given done now ≡ []
+given_nothing [] None whole rest none all is = refl
+given_nothing [] (Some g) whole rest none all is =
+    let here : rest ≡ [] = ap (λ (t : List ℕ). t ++ rest) (sym all) ∙ none in
+    let head = head_of_begun is.0 g [] (subst (IsBegun is.0 (Some g)) here is.1) in
+    absurd (no_head_in_nothing g.head head.0 head.1)
+given_nothing (g ∷ gs) now whole rest none all is =
+    let sizes : length whole + length rest ≡ 0 = sym (length-append whole rest) ∙ ap length none in
     let parts : length whole ≡ length all.0 + length all.1 = ap length all.2 ∙ length-append all.0 all.1 in
     let text : all.0 ≡ [] = nil_from_length all.0 (omega arith) in
     absurd (no_head_in_nothing g.head all.3.body (subst (λ (t : List ℕ). IsHead t g.head all.3.body) text all.3.is_head))
@@ -164,54 +170,79 @@ all_given-cons : (g : Given) (gs : List Given) (now : Option Given) → all_give
 all_given-cons g gs None = refl
 all_given-cons g gs (Some k) = refl
 
+-- the bytes begin with the first of whole requests
+text_of_first : (g : Given) (gs : List Given) (bytes whole rest : List ℕ) → bytes ≡ whole ++ rest → (all : AreWhole (g ∷ gs) whole) → bytes ≡ all.0 ++ (all.1 ++ rest)
+text_of_first g gs bytes whole rest same all = same ∙ (ap (λ (t : List ℕ). t ++ rest) all.2 ∙ append_assoc all.0 all.1 rest)
+
+-- where no head begins the bytes there is no whole request
+no_whole : (g : Given) (gs : List Given) (bytes whole rest : List ℕ) → bytes ≡ whole ++ rest → AreWhole (g ∷ gs) whole → ¬ (HasNoHead bytes)
+no_whole g gs bytes whole rest same all none =
+    none g.head (all.3.body ++ (all.1 ++ rest)) (record {
+      reads = reads_on_text bytes all.0 (all.1 ++ rest) g.head all.3.body (text_of_first g gs bytes whole rest same all) all.3.is_head;
+      few = all.3.is_head.few;
+      short = all.3.is_head.short;
+    })
+
 -- whole requests, and one that covers the same bytes and is begun
-covered : (g : Given) (gs : List Given) (now : Option Given) (k : Given) (p q : Place) (bytes whole begun : List ℕ) → bytes ≡ whole ++ begun → AreWhole (g ∷ gs) whole → IsBegun p now begun
-    → IsBegun q (Some k) bytes → all_given (g ∷ gs) now ≡ k ∷ []
-covered g gs now k p q bytes whole begun same all is other =
-    let text : bytes ≡ all.0 ++ (all.1 ++ begun) = same ∙ (ap (λ (t : List ℕ). t ++ begun) all.2 ∙ append_assoc all.0 all.1 begun) in
-    let both = whole_beside bytes all.0 (all.1 ++ begun) g k q text all.3 other in
-    let rest : all_given gs now ≡ [] = given_nothing gs now p all.1 begun both.1 all.4 is in
-    all_given-cons g gs now ∙ (λ i. both.0 i ∷ rest i)
+covered : (g : Given) (gs : List Given) (now : Option Given) (k : Given) (place : Place) (bytes whole rest : List ℕ) → bytes ≡ whole ++ rest → AreWhole (g ∷ gs) whole → IsRest now rest
+    → IsBegun place (Some k) bytes → all_given (g ∷ gs) now ≡ k ∷ []
+covered g gs now k place bytes whole rest same all is other =
+    let both = whole_beside bytes all.0 (all.1 ++ rest) g k place (text_of_first g gs bytes whole rest same all) all.3 other in
+    let none : all_given gs now ≡ [] = given_nothing gs now all.1 rest both.1 all.4 is in
+    all_given-cons g gs now ∙ (λ i. both.0 i ∷ none i)
+
+-- nothing but a rest
+one_rest : (bytes : List ℕ) (now then : Option Given) → IsRest now bytes → IsRest then bytes → all_given [] now ≡ all_given [] then
+one_rest bytes None None x y = refl
+one_rest bytes None (Some k) x y = absurd (let head = head_of_begun y.0 k bytes y.1 in x k.head head.0 head.1)
+one_rest bytes (Some g) None x y = absurd (let head = head_of_begun x.0 g bytes x.1 in y g.head head.0 head.1)
+one_rest bytes (Some g) (Some k) x y = ap (λ (e : Given). e ∷ []) (begun_beside bytes g k x.0 y.0 x.1 y.1)
 
 -- two ways to say what was given of the same bytes are one
-one_given : (done kept : List Given) (now then : Option Given) (p q : Place) (bytes w b v c : List ℕ) → bytes ≡ w ++ b → bytes ≡ v ++ c → AreWhole done w → AreWhole kept v
-    → IsBegun p now b → IsBegun q then c → all_given done now ≡ all_given kept then
-one_given [] [] now then p q bytes w b v c x y all every is has = last now then (subst (IsBegun p now) (sym here) is) (subst (IsBegun q then) (sym there) has)
-  where
-    here : bytes ≡ b
-    here = x ∙ ap (λ (t : List ℕ). t ++ b) all
-
-    there : bytes ≡ c
-    there = y ∙ ap (λ (t : List ℕ). t ++ c) every
-
-    nothing : (place : Place) → IsBegun place None bytes → bytes ≡ []
-    nothing Between f = f
-    nothing (Counted left) f = absurd f
-    nothing (Chunked place) f = absurd f
-
-    last : (now then : Option Given) → IsBegun p now bytes → IsBegun q then bytes → all_given [] now ≡ all_given [] then
-    last None None f s = refl
-    last None (Some k) f s = sym (begun_nothing (Some k) q (subst (IsBegun q (Some k)) (nothing p f) s) [])
-    last (Some g) None f s = begun_nothing (Some g) p (subst (IsBegun p (Some g)) (nothing q s) f) []
-    last (Some g) (Some k) f s = ap (λ (e : Given). e ∷ []) (begun_beside bytes g k p q f s)
-one_given [] (k ∷ ks) None then Between q bytes w b v c x y all every is has =
-    let none : bytes ≡ [] = x ∙ (ap (λ (t : List ℕ). t ++ b) all ∙ is) in sym (given_nothing (k ∷ ks) then q v c (sym y ∙ none) every has)
-one_given [] (k ∷ ks) None then (Counted left) q bytes w b v c x y all every is has = absurd is
-one_given [] (k ∷ ks) None then (Chunked place) q bytes w b v c x y all every is has = absurd is
-one_given [] (k ∷ ks) (Some g) then p q bytes w b v c x y all every is has =
-    let here : bytes ≡ b = x ∙ ap (λ (t : List ℕ). t ++ b) all in sym (covered k ks then g q p bytes v c y every has (subst (IsBegun p (Some g)) (sym here) is))
-one_given (g ∷ gs) [] now None p Between bytes w b v c x y all every is has =
-    let none : bytes ≡ [] = y ∙ (ap (λ (t : List ℕ). t ++ c) every ∙ has) in given_nothing (g ∷ gs) now p w b (sym x ∙ none) all is
-one_given (g ∷ gs) [] now None p (Counted left) bytes w b v c x y all every is has = absurd has
-one_given (g ∷ gs) [] now None p (Chunked place) bytes w b v c x y all every is has = absurd has
-one_given (g ∷ gs) [] now (Some k) p q bytes w b v c x y all every is has =
-    let here : bytes ≡ c = y ∙ ap (λ (t : List ℕ). t ++ c) every in covered g gs now k p q bytes w b x all is (subst (IsBegun q (Some k)) (sym here) has)
-one_given (g ∷ gs) (k ∷ ks) now then p q bytes w b v c x y all every is has =
-    let first : bytes ≡ all.0 ++ (all.1 ++ b) = x ∙ (ap (λ (t : List ℕ). t ++ b) all.2 ∙ append_assoc all.0 all.1 b) in
-    let second : bytes ≡ every.0 ++ (every.1 ++ c) = y ∙ (ap (λ (t : List ℕ). t ++ c) every.2 ∙ append_assoc every.0 every.1 c) in
-    let both = same_whole bytes all.0 every.0 (all.1 ++ b) (every.1 ++ c) g k first second all.3 every.3 in
-    let rest : all_given gs now ≡ all_given ks then = one_given gs ks now then p q (all.1 ++ b) all.1 b every.1 c refl both.1 all.4 every.4 is has in
+pub one_given : (done kept : List Given) (now then : Option Given) (bytes w r v t : List ℕ) → bytes ≡ w ++ r → bytes ≡ v ++ t → AreWhole done w → AreWhole kept v
+    → IsRest now r → IsRest then t → all_given done now ≡ all_given kept then
+one_given [] [] now then bytes w r v t x y all every is has =
+    let here : r ≡ bytes = ap (λ (u : List ℕ). u ++ r) (sym all) ∙ sym x in
+    let there : t ≡ bytes = ap (λ (u : List ℕ). u ++ t) (sym every) ∙ sym y in
+    one_rest bytes now then (subst (IsRest now) here is) (subst (IsRest then) there has)
+one_given [] (k ∷ ks) None then bytes w r v t x y all every is has =
+    let here : r ≡ bytes = ap (λ (u : List ℕ). u ++ r) (sym all) ∙ sym x in absurd (no_whole k ks bytes v t y every (subst HasNoHead here is))
+one_given [] (k ∷ ks) (Some g) then bytes w r v t x y all every is has =
+    let here : r ≡ bytes = ap (λ (u : List ℕ). u ++ r) (sym all) ∙ sym x in sym (covered k ks then g is.0 bytes v t y every has (subst (IsBegun is.0 (Some g)) here is.1))
+one_given (g ∷ gs) [] now None bytes w r v t x y all every is has =
+    let there : t ≡ bytes = ap (λ (u : List ℕ). u ++ t) (sym every) ∙ sym y in absurd (no_whole g gs bytes w r x all (subst HasNoHead there has))
+one_given (g ∷ gs) [] now (Some k) bytes w r v t x y all every is has =
+    let there : t ≡ bytes = ap (λ (u : List ℕ). u ++ t) (sym every) ∙ sym y in covered g gs now k has.0 bytes w r x all is (subst (IsBegun has.0 (Some k)) there has.1)
+one_given (g ∷ gs) (k ∷ ks) now then bytes w r v t x y all every is has =
+    let both = same_whole bytes all.0 every.0 (all.1 ++ r) (every.1 ++ t) g k (text_of_first g gs bytes w r x all) (text_of_first k ks bytes v t y every) all.3 every.3 in
+    let rest : all_given gs now ≡ all_given ks then = one_given gs ks now then (all.1 ++ r) all.1 r every.1 t refl both.1 all.4 every.4 is has in
     all_given-cons g gs now ∙ ((λ i. both.0 i ∷ rest i) ∙ sym (all_given-cons k ks then))
 
+-- the bytes that were taken end with a rest
+taken_rest : (now : Option Given) (place : Place) (begun : List ℕ) → IsBegun place now begun → IsRest now begun
+taken_rest None Between begun is = subst HasNoHead (sym is) no_head_in_nothing
+taken_rest None (Counted left) begun is = absurd is
+taken_rest None (Chunked place) begun is = absurd is
+taken_rest (Some g) place begun is = (place, is)
+
 pub HasRead-unique : (done kept : List Given) (now then : Option Given) (taken : List ℕ) (p q : Place) → HasRead done now taken p → HasRead kept then taken q → all_given done now ≡ all_given kept then
-HasRead-unique done kept now then taken p q x y = one_given done kept now then p q taken x.whole x.begun y.whole y.begun x.text y.text x.are_whole y.are_whole x.is_begun y.is_begun
+HasRead-unique done kept now then taken p q x y =
+    one_given done kept now then taken x.whole x.begun y.whole y.begun x.text y.text x.are_whole y.are_whole (taken_rest now p x.begun x.is_begun) (taken_rest then q y.begun y.is_begun)
+
+-- and so do those that were fed, where they hold no further part
+fed_rest : (now : Option Given) (place : Place) (begun waiting : List ℕ) → IsBegun place now begun → HoldsNoPart place waiting → IsRest now (begun ++ waiting)
+fed_rest None Between begun waiting is none = subst HasNoHead (ap (λ (t : List ℕ). t ++ waiting) (sym is)) none.0
+fed_rest None (Counted left) begun waiting is none = absurd is
+fed_rest None (Chunked place) begun waiting is none = absurd is
+fed_rest (Some g) Between begun waiting is none = absurd is
+fed_rest (Some g) (Counted left) begun waiting is none =
+    let same : begun ≡ begun ++ waiting = sym (append-nil begun) ∙ ap (λ (t : List ℕ). begun ++ t) (sym none.1) in (Counted left, subst (IsBegun (Counted left) (Some g)) same is)
+fed_rest (Some g) (Chunked place) begun waiting is none = (Chunked (place_after place waiting), begun_through place g begun waiting is none)
+
+-- the same bytes, fed in any pieces, and taken as far as they go
+pub one_feeding : (done kept : List Given) (now then : Option Given) (taken gone waiting left : List ℕ) (p q : Place) → HasRead done now taken p → HasRead kept then gone q
+    → HoldsNoPart p waiting → HoldsNoPart q left → taken ++ waiting ≡ gone ++ left → all_given done now ≡ all_given kept then
+one_feeding done kept now then taken gone waiting left p q x y none nothing same =
+    one_given done kept now then (taken ++ waiting) x.whole (x.begun ++ waiting) y.whole (y.begun ++ left)
+    (taken_on taken x.whole x.begun waiting x.text) (same ∙ taken_on gone y.whole y.begun left y.text) x.are_whole y.are_whole
+    (fed_rest now p x.begun waiting x.is_begun none) (fed_rest then q y.begun left y.is_begun nothing)

@@ -31,7 +31,6 @@ pub first_found : (name b : List ℕ) (hs : List HeaderSpan) (i : ℕ) (d : Head
     → values_of name (map (header_bytes b) (take i hs)) ≡ [] → same_ignoring_case (header_bytes b (get_or hs i d)).0 name ≡ true
     → first_of (values_of name (map (header_bytes b) hs)) ≡ Some (header_bytes b (get_or hs i d)).1
 first_found name b hs i d within none same =
-    let f = header_bytes b in
     let value : List ℕ = (header_bytes b (get_or hs i d)).1 in
     let front : values_of name (map (header_bytes b) (take (i + 1) hs)) ≡ value ∷ [] = values_named name b hs i d within same ∙ ap (λ (vs : List (List ℕ)). vs ++ value ∷ []) none in
     let cut : map (header_bytes b) hs ≡ map (header_bytes b) (take (i + 1) hs) ++ map (header_bytes b) (drop (i + 1) hs) =
@@ -103,7 +102,6 @@ bad_chunked s place n at reads = subst (λ (p : Place). IsBad p s.waiting) (sym 
 -- a piece of a chunk's data is read as that
 pub piece_run : (left : ℕ) (rest : List ℕ) → piece_of left rest ≢ [] → Runs (Data left) (piece_of left rest) (piece_of left rest) (if length (piece_of left rest) == left then DataReturn else Data (left - length (piece_of left rest)))
 piece_run left rest some =
-    let piece : List ℕ = piece_of left rest in
     let fits : length (piece_of left rest) ≤ left = omega (arith, length-take (min left MAX_PIECE) rest) in
     ⊎_elim
     (λ (e : length (piece_of left rest) ≡ left).
@@ -125,8 +123,6 @@ pub gives_chunked : (s s' : Standing) (place behind : ChunkPlace) (lines left co
     → s' ≡ record { place = Chunked behind; body = take count (drop lines s.waiting); waiting = drop (lines + count) s.waiting; closed = s.closed }
     → GivesBody s.place s s'
 gives_chunked s s' place behind lines left count at reads size some step after =
-    let rest : List ℕ = drop lines s.waiting in
-    let most : ℕ = min left MAX_PIECE in
     let is : count ≡ min (min left MAX_PIECE) (length (drop lines s.waiting)) = size ∙ ap (min (min left MAX_PIECE)) (sym (length-drop lines s.waiting)) in
     let body : take count (drop lines s.waiting) ≡ piece_of left (drop lines s.waiting) = ap (λ (n : ℕ). take n (drop lines s.waiting)) is ∙ take_min (min left MAX_PIECE) (drop lines s.waiting) in
     let waiting : drop (lines + count) s.waiting ≡ drop (min left MAX_PIECE) (drop lines s.waiting) =

@@ -40,9 +40,6 @@ first_end h body content n less is short =
     is
 
 -- a request that was given
-request_of : (g : Given) (text : List ℕ) → IsWhole g text → Request
-request_of g text is = record { head = g.head; body = is.body }
-
 whole_request : (g : Given) (text : List ℕ) (is : IsWhole g text) → IsRequest IsBodyText (record { head = g.head; body = is.body })
 whole_request g text is = record {
   head = is.is_head.reads.0;

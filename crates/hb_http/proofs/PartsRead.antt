@@ -8,7 +8,7 @@ use Rattle.hb_http.specs.Framing.{HasLength, IsChunked}
 use Rattle.hb_http.specs.Headers.{headers_of}
 use Rattle.hb_http.specs.Heads.{IsHead}
 use Rattle.hb_http.specs.Parts.{EndsBody, Gives, GivesBody, GivesChunked, GivesCounted, GivesHead, HoldsNoPart, body_place, piece_of, read_through}
-use Rattle.hb_http.specs.Readings.{AreWhole, Given, HasRead, IsBegun, IsBegunInChunks, IsWhole, ReadsOn}
+use Rattle.hb_http.specs.Readings.{AreWhole, Follows, Given, HasRead, IsBegun, IsBegunInChunks, IsWhole, ReadsOn}
 use Rattle.hb_http.specs.Standing.{Standing, at_rest}
 use Rattle.hb_http.specs.declared.TheConstants.{MAX_PIECE}
 use Rattle.hb_http.specs.declared.chunk_places.ChunkPlace.{ChunkPlace}
@@ -65,13 +65,12 @@ head_on done None taken s s' told Between at gives read =
     }
 
 -- what was taken, and more behind it
-taken_on : (taken whole begun more : List ℕ) → taken ≡ whole ++ begun → taken ++ more ≡ whole ++ (begun ++ more)
+pub taken_on : (taken whole begun more : List ℕ) → taken ≡ whole ++ begun → taken ++ more ≡ whole ++ (begun ++ more)
 taken_on taken whole begun more e = ap (λ (t : List ℕ). t ++ more) e ∙ append_assoc whole begun more
 
 counted_on : (done : List Given) (g : Given) (taken : List ℕ) (s s' : Standing) (left : ℕ)
     → GivesCounted left s s' → HasRead done (Some g) taken (Counted left) → ReadsOn done (Some g) taken s (Ok Body) s'
 counted_on done g taken s s' left gives read =
-    let piece : List ℕ = piece_of left s.waiting in
     let now : Given = record { head = g.head; content = g.content ++ piece_of left s.waiting } in
     let fits : length (piece_of left s.waiting) ≤ left = omega (arith, length-take (min left MAX_PIECE) s.waiting) in
     let size : length g.content + left ≡ length (g.content ++ piece_of left s.waiting) + (left - length (piece_of left s.waiting)) = omega (arith, length-append g.content (piece_of left s.waiting)) in
@@ -101,9 +100,6 @@ not_end false n = (λ e. cc, λ e. cc)
 chunked_on : (done : List Given) (g : Given) (taken : List ℕ) (s s' : Standing) (place : ChunkPlace)
     → GivesChunked place s s' → HasRead done (Some g) taken (Chunked place) → ReadsOn done (Some g) taken s (Ok Body) s'
 chunked_on done g taken s s' place gives read =
-    let lines : List ℕ = gives.lines in
-    let piece : List ℕ = piece_of gives.left gives.rest in
-    let gone : List ℕ = gives.lines ++ piece_of gives.left gives.rest in
     let now : Given = record { head = g.head; content = g.content ++ piece_of gives.left gives.rest } in
     let body : s'.body ≡ piece_of gives.left gives.rest = ap (λ (t : Standing). t.body) gives.after in
     let told = piece_run gives.left gives.rest (λ none. gives.some (body ∙ none)) in
@@ -191,52 +187,54 @@ same_read : (done : List Given) (now : Option Given) (taken : List ℕ) (s s' : 
 same_read done now taken s s' e read =
     subst (λ (p : Place). HasRead done now (taken ++ []) p) (sym (ap (λ (t : Standing). t.place) e)) (subst (λ (t : List ℕ). HasRead done now t s.place) (sym (append-nil taken)) read)
 
-need_on : (done : List Given) (now : Option Given) (taken : List ℕ) (s s' : Standing) (place : Place) → s.place ≡ place
-    → HoldsNoPart place s.waiting → s' ≡ read_through place s → HasRead done now taken place → ReadsOn done now taken s (Ok NeedInput) s'
-need_on done now taken s s' Between at none e read = record {
+-- nor does it give anything
+stay_on : (done : List Given) (now : Option Given) (taken : List ℕ) (s s' : Standing) (result : Result Part HttpFault) → s' ≡ at_rest s → Follows result s'.body done now done now
+    → HasRead done now taken s.place → ReadsOn done now taken s result s'
+stay_on done now taken s s' result e follows read = record {
   gone = [];
   done' = done;
   now' = now;
   text = sym (ap (λ (t : Standing). t.waiting) e);
-  follows = (refl, refl);
-  reads = same_read done now taken s s' e (subst (λ (p : Place). HasRead done now taken p) (sym at) read);
+  follows = follows;
+  reads = same_read done now taken s s' e read;
 }
-need_on done now taken s s' (Counted left) at none e read = record {
-  gone = [];
-  done' = done;
-  now' = now;
-  text = sym (ap (λ (t : Standing). t.waiting) e);
-  follows = (refl, refl);
-  reads = same_read done now taken s s' e (subst (λ (p : Place). HasRead done now taken p) (sym at) read);
-}
-need_on done None taken s s' (Chunked place) at none e read = absurd read.is_begun
-need_on done (Some g) taken s s' (Chunked place) at none e read =
-    let begun : IsBegunInChunks place g read.begun = read.is_begun in
-    let before : Runs body_start begun.begun g.content place = record { arrives = begun.arrives; gives = begun.content } in
-    let over : Runs place s.waiting [] (place_after place s.waiting) = record { arrives = refl; gives = lines_no_data place s.waiting none.1.are_lines } in
+
+-- a request that is begun in chunks goes on through lines
+pub begun_through : (place : ChunkPlace) (g : Given) (begun waiting : List ℕ) → IsBegunInChunks place g begun → HoldsNoPart (Chunked place) waiting
+    → IsBegunInChunks (place_after place waiting) g (begun ++ waiting)
+begun_through place g begun waiting is none =
+    let before : Runs body_start is.begun g.content place = record { arrives = is.arrives; gives = is.content } in
+    let over : Runs place waiting [] (place_after place waiting) = record { arrives = refl; gives = lines_no_data place waiting none.1.are_lines } in
     let all = run_on before over in
     record {
-      gone = s.waiting;
-      done' = done;
-      now' = Some g;
-      text = sym (append-nil s.waiting) ∙ ap (λ (t : List ℕ). s.waiting ++ t) (sym (ap (λ (t : Standing). t.waiting) e));
-      follows = (refl, refl);
-      reads = record {
-        whole = read.whole;
-        begun = read.begun ++ s.waiting;
-        text = taken_on taken read.whole read.begun s.waiting read.text;
-        are_whole = read.are_whole;
-        is_begun = subst (λ (p : Place). IsBegun p (Some g) (read.begun ++ s.waiting)) (sym (ap (λ (t : Standing). t.place) e)) (record {
-          begun = begun.begun ++ s.waiting;
-          is_head = IsHead-append read.begun s.waiting g.head begun.begun begun.is_head;
-          chunked = begun.chunked;
-          arrives = all.arrives;
-          content = all.gives ∙ append-nil g.content;
-          not_over = λ o. none.2 (sym none.1.arrives ∙ o);
-          not_bad = λ o. none.3 (sym none.1.arrives ∙ o);
-        });
-      };
+      begun = is.begun ++ waiting;
+      is_head = IsHead-append begun waiting g.head is.begun is.is_head;
+      chunked = is.chunked;
+      arrives = all.arrives;
+      content = all.gives ∙ append-nil g.content;
+      not_over = λ o. none.2 (sym none.1.arrives ∙ o);
+      not_bad = λ o. none.3 (sym none.1.arrives ∙ o);
     }
+
+need_on : (done : List Given) (now : Option Given) (taken : List ℕ) (s s' : Standing) (place : Place) → s.place ≡ place
+    → HoldsNoPart place s.waiting → s' ≡ read_through place s → HasRead done now taken place → ReadsOn done now taken s (Ok NeedInput) s'
+need_on done now taken s s' Between at none e read = stay_on done now taken s s' (Ok NeedInput) e (refl, refl) (subst (HasRead done now taken) (sym at) read)
+need_on done now taken s s' (Counted left) at none e read = stay_on done now taken s s' (Ok NeedInput) e (refl, refl) (subst (HasRead done now taken) (sym at) read)
+need_on done None taken s s' (Chunked place) at none e read = absurd read.is_begun
+need_on done (Some g) taken s s' (Chunked place) at none e read = record {
+  gone = s.waiting;
+  done' = done;
+  now' = Some g;
+  text = sym (append-nil s.waiting) ∙ ap (λ (t : List ℕ). s.waiting ++ t) (sym (ap (λ (t : Standing). t.waiting) e));
+  follows = (refl, refl);
+  reads = record {
+    whole = read.whole;
+    begun = read.begun ++ s.waiting;
+    text = taken_on taken read.whole read.begun s.waiting read.text;
+    are_whole = read.are_whole;
+    is_begun = subst (λ (p : Place). IsBegun p (Some g) (read.begun ++ s.waiting)) (sym (ap (λ (t : Standing). t.place) e)) (begun_through place g read.begun s.waiting read.is_begun none);
+  };
+}
 
 -- each part
 pub reads_on : (done : List Given) (now : Option Given) (taken : List ℕ) (s : Standing) (result : Result Part HttpFault) (s' : Standing)
@@ -245,9 +243,9 @@ reads_on done now taken s (Ok (HeadPart told)) s' gives read = head_on done now 
 reads_on done now taken s (Ok Body) s' gives read = body_on done now taken s s' s.place gives read
 reads_on done now taken s (Ok BodyEnd) s' gives read = end_on done now taken s s' s.place gives read
 reads_on done now taken s (Ok NeedInput) s' gives read = need_on done now taken s s' s.place refl gives.1 gives.2 read
-reads_on done now taken s (Ok InputEnd) s' gives read = record { gone = []; done' = done; now' = now; text = sym (ap (λ (t : Standing). t.waiting) gives.4); follows = (refl, refl); reads = same_read done now taken s s' gives.4 read }
-reads_on done now taken s (Err Cut) s' gives read = record { gone = []; done' = done; now' = now; text = sym (ap (λ (t : Standing). t.waiting) gives.3); follows = (refl, refl); reads = same_read done now taken s s' gives.3 read }
-reads_on done now taken s (Err Bad) s' gives read = record { gone = []; done' = done; now' = now; text = sym (ap (λ (t : Standing). t.waiting) gives.1); follows = (refl, refl); reads = same_read done now taken s s' gives.1 read }
-reads_on done now taken s (Err TooManyHeaders) s' gives read = record { gone = []; done' = done; now' = now; text = sym (ap (λ (t : Standing). t.waiting) gives.2); follows = (refl, refl); reads = same_read done now taken s s' gives.2 read }
-reads_on done now taken s (Err HeadTooLong) s' gives read = record { gone = []; done' = done; now' = now; text = sym (ap (λ (t : Standing). t.waiting) gives.4); follows = (refl, refl); reads = same_read done now taken s s' gives.4 read }
-reads_on done now taken s (Err Memory) s' gives read = record { gone = []; done' = done; now' = now; text = sym (ap (λ (t : Standing). t.waiting) gives); follows = (refl, refl); reads = same_read done now taken s s' gives read }
+reads_on done now taken s (Ok InputEnd) s' gives read = stay_on done now taken s s' (Ok InputEnd) gives.4 (refl, refl) read
+reads_on done now taken s (Err Cut) s' gives read = stay_on done now taken s s' (Err Cut) gives.3 (refl, refl) read
+reads_on done now taken s (Err Bad) s' gives read = stay_on done now taken s s' (Err Bad) gives.1 (refl, refl) read
+reads_on done now taken s (Err TooManyHeaders) s' gives read = stay_on done now taken s s' (Err TooManyHeaders) gives.2 (refl, refl) read
+reads_on done now taken s (Err HeadTooLong) s' gives read = stay_on done now taken s s' (Err HeadTooLong) gives.4 (refl, refl) read
+reads_on done now taken s (Err Memory) s' gives read = stay_on done now taken s s' (Err Memory) gives (refl, refl) read

@@ -3,6 +3,7 @@ use Rattle.std.proofs.Common.{◌≡◌, ◌≢◌, ◌∙◌, ℕ, List, [], �
 use Rattle.std.proofs.lemmas.Bool.{cases_eq}
 use Rattle.std.specs.List.{AllByRecursion}
 use Rattle.hb_text.specs.Numbers.{IsNumber}
+use Rattle.hb_http.proofs.Each.{all_push}
 use Rattle.hb_http.specs.BodyHeaders.{SayLength}
 use Rattle.hb_http.specs.declared.framing.LengthSaid.{LengthSaid}
 use Rattle.hb_http.specs.declared.framing.LengthSaid.TheVariants.{Everywhere, Unclear}
@@ -25,11 +26,6 @@ one_number text n m a b = sym a.value ∙ b.value
 pub one_length : (values : List (List ℕ)) (n m : ℕ) → (values ≡ [] → n ≡ m) → AllByRecursion (λ value. IsNumber value n) values → AllByRecursion (λ value. IsNumber value m) values → n ≡ m
 one_length [] n m none a b = none refl
 one_length (value ∷ values) n m none a b = one_number value n m a.0 b.0
-
--- what holds of each value and of one more holds of each of them all
-all_push : (P : List ℕ → Type 0) (xs : List (List ℕ)) (y : List ℕ) → AllByRecursion P xs → P y → AllByRecursion P (xs ++ y ∷ [])
-all_push P [] y all here = (here, tt)
-all_push P (x ∷ xs) y all here = (all.0, all_push P xs y all.1 here)
 
 -- there is one
 some_push : (xs : List (List ℕ)) (y : List ℕ) → xs ++ y ∷ [] ≢ []

@@ -8,7 +8,7 @@ ghost use Rattle.hb_http.specs.declared.chunk_places.ChunkPlace.{ChunkPlace};
 ghost use Rattle.hb_http.specs.Framing.{HasLength, IsChunked};
 ghost use Rattle.hb_http.specs.Heads.{IsHead, HasNoHead, IsMalformed, NeverHasHead, HasTooManyHeaders, IsHeadTooLong, window};
 ghost use Rattle.hb_http.specs.declared.TheConstants.{MAX_HEAD};
-ghost use Rattle.hb_http.specs.Parts.{Gives, IsBad};
+ghost use Rattle.hb_http.specs.Parts.{Gives, HoldsNoPart, IsBad};
 ghost use Rattle.hb_http.specs.Readings.{AreRequests, Given, HasRead, IsBodyText, all_given};
 ghost use Rattle.hb_http.specs.Requests.{Request, HasNoRequest, RequestsOf, request_text};
 ghost use Rattle.hb_http.specs.Standing.{Standing};
@@ -82,10 +82,16 @@ pub fn one_chunked_body()
 {}
 
 /// The bytes that a session took say which requests were given, and as much of their data: two ways to
-/// say it are one.
+/// say it are one. So do the bytes that it was fed, where those that wait hold no further part: it
+/// doesn't matter in which pieces they were fed, and when parts were taken.
 pub fn one_reading_of_parts()
-    ensures { (done others : List Given) (now other : Option Given) (taken : List ℕ) (place there : Place)
+    ensures start { HasRead [] None [] Place.Between }
+    ensures taken { (done others : List Given) (now other : Option Given) (taken : List ℕ) (place there : Place)
         → HasRead done now taken place → HasRead others other taken there
+        → all_given done now ≡ all_given others other }
+    ensures fed { (done others : List Given) (now other : Option Given) (taken gone waiting left : List ℕ) (place there : Place)
+        → HasRead done now taken place → HasRead others other gone there
+        → HoldsNoPart place waiting → HoldsNoPart there left → taken ++ waiting ≡ gone ++ left
         → all_given done now ≡ all_given others other }
 {}
 

@@ -123,8 +123,9 @@ impl Session {
         })
     }
 
-    /// Takes bytes in behind those that wait, as many as there is room for: fewer than all of them
-    /// exactly where the room is full behind them. It answers how many, and takes no memory.
+    /// Takes bytes in behind those that wait, as many as there is room for beside the present body
+    /// piece, and answers how many. Where they are fewer than it was given the room is full. It takes no
+    /// memory.
     pub fn feed(&mut self, piece: &[u8]) -> usize
         ensures count { result ≡ min (length piece.now) (ROOM - (length self.old.body + length self.old.waiting)) }
         ensures after { self.new ≡ record { place = self.old.place; body = self.old.body; waiting = self.old.waiting ++ take result piece.now; closed = self.old.closed } }
