@@ -34,7 +34,8 @@ phrase status =
     if status == 416 then codes "Range Not Satisfiable" else (
     if status == 431 then codes "Request Header Fields Too Large" else (
     if status == 500 then codes "Internal Server Error" else (
-    if status == 503 then codes "Service Unavailable" else codes "Insufficient Storage")))))))))))))
+    if status == 503 then codes "Service Unavailable" else (
+    if status == 507 then codes "Insufficient Storage" else []))))))))))))))
 
 -- `HTTP/1.1`, the status and its phrase
 abbrev pub status_line : ℕ → List ℕ
