@@ -1,0 +1,75 @@
+//! Paths under `/v2/`.
+ghost use Rattle.std.specs.Prelude.{◌≡◌, ◌++◌, ◌∷◌, false, Option, IfSome, IfNone, option_map, nat_eq};
+ghost use Rattle.std.specs.List.{list_any};
+ghost use Rattle.hb_routes.specs.Resources.{registry_resource};
+ghost use Rattle.hb_routes.specs.Seen.{seen};
+
+use crate::resources::Resource;
+
+// What stands before the last slash, and the part behind it.
+fn cut_last(text: &[u8]) -> Option<(&[u8], &[u8])>
+    ensures some { IfSome result (λ cut. (text.now ≡ cut.0.now ++ 47 ∷ cut.1.now) × (list_any (nat_eq 47) cut.1.now ≡ false)) }
+    ensures none { IfNone result (list_any (nat_eq 47) text.now ≡ false) }
+{
+    for place in (0..text.len()).rev() {
+        if text[place] == b'/' {
+            return Some((&text[..place], &text[place + 1..]));
+        }
+    }
+    None
+}
+
+// The last part, and what stands before its slash: nothing where it has none.
+fn last_part(text: &[u8]) -> (&[u8], &[u8]) {
+    match cut_last(text) {
+        Some((front, last)) => (front, last),
+        None => (&text[..0], text),
+    }
+}
+
+fn tags_or<'a>(name: &'a [u8], last: &'a [u8]) -> Option<Resource<'a>> {
+    if last == b"list".as_slice() {
+        Some(Resource::Tags { name })
+    } else {
+        None
+    }
+}
+
+fn upload_of<'a>(front: &'a [u8], last: &'a [u8]) -> Option<Resource<'a>> {
+    let (name, kind) = last_part(front);
+    if kind != b"blobs".as_slice() {
+        return None;
+    }
+    if last.is_empty() {
+        Some(Resource::Uploads { name })
+    } else {
+        Some(Resource::Upload { name, id: last })
+    }
+}
+
+/// What a path names, by its text behind `/v2/`.
+pub fn registry_resource(text: &[u8]) -> Option<Resource<'_>>
+    ensures { option_map seen result ≡ registry_resource text.now }
+{
+    if text.is_empty() {
+        return Some(Resource::Base);
+    }
+    let Some((front, last)) = cut_last(text) else {
+        return None;
+    };
+    let (name, kind) = last_part(front);
+    if kind == b"tags".as_slice() {
+        tags_or(name, last)
+    } else if kind == b"uploads".as_slice() {
+        upload_of(name, last)
+    } else if kind == b"blobs".as_slice() {
+        Some(Resource::Blob { name, digest: last })
+    } else if kind == b"manifests".as_slice() {
+        Some(Resource::Manifest {
+            name,
+            reference: last,
+        })
+    } else {
+        None
+    }
+}
