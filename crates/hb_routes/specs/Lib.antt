@@ -1,6 +1,7 @@
 pub mod Answers
 pub mod ControlRows
 pub mod Cuts
+pub mod LastParts
 pub mod Methods
 pub mod Queries
 pub mod Readings

@@ -1,7 +1,8 @@
-//! Paths under `/v2/`.
-ghost use Rattle.std.specs.Prelude.{◌≡◌, ◌++◌, ◌∷◌, false, Option, IfSome, IfNone, option_map, nat_eq};
+//! Paths under `/v2/`, read from their ends.
+ghost use Rattle.std.specs.Prelude.{◌≡◌, ◌++◌, ◌∷◌, [], ℕ, List, false, Option, IfSome, IfNone, option_map, nat_eq, codes};
 ghost use Rattle.std.specs.List.{list_any};
-ghost use Rattle.hb_routes.specs.Resources.{registry_resource};
+ghost use Rattle.hb_routes.specs.LastParts.{AreOf, IsLastPart};
+ghost use Rattle.hb_routes.specs.Resources.{by_ending, registry_resource};
 ghost use Rattle.hb_routes.specs.Seen.{seen};
 
 use crate::resources::Resource;
@@ -20,22 +21,19 @@ fn cut_last(text: &[u8]) -> Option<(&[u8], &[u8])>
 }
 
 // The last part, and what stands before its slash: nothing where it has none.
-fn last_part(text: &[u8]) -> (&[u8], &[u8]) {
+fn last_part(text: &[u8]) -> (&[u8], &[u8])
+    ensures { IsLastPart text.now result.0.now result.1.now }
+{
     match cut_last(text) {
         Some((front, last)) => (front, last),
         None => (&text[..0], text),
     }
 }
 
-fn tags_or<'a>(name: &'a [u8], last: &'a [u8]) -> Option<Resource<'a>> {
-    if last == b"list".as_slice() {
-        Some(Resource::Tags { name })
-    } else {
-        None
-    }
-}
-
-fn upload_of<'a>(front: &'a [u8], last: &'a [u8]) -> Option<Resource<'a>> {
+// What a path names that ends with `uploads` and this last part, by what stands before both.
+fn upload_of<'a>(front: &'a [u8], last: &'a [u8]) -> Option<Resource<'a>>
+    ensures { (before : List (List ℕ)) → AreOf before front.now → option_map seen result ≡ by_ending (before ++ codes "uploads" ∷ last.now ∷ []) }
+{
     let (name, kind) = last_part(front);
     if kind != b"blobs".as_slice() {
         return None;
@@ -47,6 +45,29 @@ fn upload_of<'a>(front: &'a [u8], last: &'a [u8]) -> Option<Resource<'a>> {
     }
 }
 
+// What a path names by its last two parts, and by what stands before both.
+fn resource_at<'a>(front: &'a [u8], kind: &'a [u8], last: &'a [u8]) -> Option<Resource<'a>>
+    ensures { (before : List (List ℕ)) → AreOf before front.now → option_map seen result ≡ by_ending (before ++ kind.now ∷ last.now ∷ []) }
+{
+    if kind == b"uploads".as_slice() {
+        upload_of(front, last)
+    } else if kind == b"blobs".as_slice() {
+        Some(Resource::Blob {
+            name: front,
+            digest: last,
+        })
+    } else if kind == b"manifests".as_slice() {
+        Some(Resource::Manifest {
+            name: front,
+            reference: last,
+        })
+    } else if kind == b"tags".as_slice() && last == b"list".as_slice() {
+        Some(Resource::Tags { name: front })
+    } else {
+        None
+    }
+}
+
 /// What a path names, by its text behind `/v2/`.
 pub fn registry_resource(text: &[u8]) -> Option<Resource<'_>>
     ensures { option_map seen result ≡ registry_resource text.now }
@@ -54,22 +75,9 @@ pub fn registry_resource(text: &[u8]) -> Option<Resource<'_>>
     if text.is_empty() {
         return Some(Resource::Base);
     }
-    let Some((front, last)) = cut_last(text) else {
+    let Some((rest, last)) = cut_last(text) else {
         return None;
     };
-    let (name, kind) = last_part(front);
-    if kind == b"tags".as_slice() {
-        tags_or(name, last)
-    } else if kind == b"uploads".as_slice() {
-        upload_of(name, last)
-    } else if kind == b"blobs".as_slice() {
-        Some(Resource::Blob { name, digest: last })
-    } else if kind == b"manifests".as_slice() {
-        Some(Resource::Manifest {
-            name,
-            reference: last,
-        })
-    } else {
-        None
-    }
+    let (front, kind) = last_part(rest);
+    resource_at(front, kind, last)
 }
