@@ -1,3 +1,5 @@
 pub mod Endings
+pub mod Matching
+pub mod Parameters
 pub mod Parts
 pub mod Tests
