@@ -1,4 +1,6 @@
+pub mod Controls
 pub mod Endings
+pub mod Fronts
 pub mod Matching
 pub mod Parameters
 pub mod Parts

@@ -1,4 +1,4 @@
-use Rattle.hb_routes.proofs.Parameters.{slashed}
+use Rattle.hb_routes.proofs.Controls.{route_to}
 use Rattle.hb_routes.proofs.control_paths.control_resource.Goals as goal
 
 pub returns-in_default : goal.returns-in_default
