@@ -17,7 +17,7 @@ use Rattle.hb_routes.proofs.Parameters.{slashed, first-ended, first-ended_nil, o
 
 -- ---- the rows
 -- what the router keeps of a pattern
-pub route_to : Control → RouteOf Control
+unfoldable pub route_to : Control → RouteOf Control
 route_to Project = record { pattern = codes "/harbor/projects/" ++ 256 ∷ []; text = codes "/harbor/projects/{name}"; names = (18, 22) ∷ []; value = Project }
 route_to Rules = record { pattern = codes "/harbor/projects/" ++ 256 ∷ codes "/rules"; text = codes "/harbor/projects/{name}/rules"; names = (18, 22) ∷ []; value = Rules }
 route_to Jobs = record { pattern = codes "/harbor/jobs"; text = codes "/harbor/jobs"; names = []; value = Jobs }

@@ -1,3 +1,4 @@
+pub mod Captured
 pub mod Controls
 pub mod Endings
 pub mod Fronts

@@ -23,7 +23,7 @@ segment-plain : (s : List ℕ) → slashed s ≡ false → segment s ≡ s
 segment-plain [] h = refl
 segment-plain (b ∷ s) h = let n = neither (nat_eq 47 b) (slashed s) h in rw (turned b false n.0, segment-plain s n.1) refl
 
-segment-part : (part tail : List ℕ) → slashed part ≡ false → segment (part ++ 47 ∷ tail) ≡ part ++ 47 ∷ []
+pub segment-part : (part tail : List ℕ) → slashed part ≡ false → segment (part ++ 47 ∷ tail) ≡ part ++ 47 ∷ []
 segment-part [] tail h = refl
 segment-part (b ∷ part) tail h = let n = neither (nat_eq 47 b) (slashed part) h in rw (turned b false n.0, segment-part part tail n.1) refl
 
