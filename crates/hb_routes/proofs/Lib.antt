@@ -3,6 +3,7 @@ pub mod Controls
 pub mod Endings
 pub mod Fronts
 pub mod Matching
+pub mod OneRoute
 pub mod Parameters
 pub mod Parts
 pub mod Tests

@@ -4,6 +4,7 @@
 mod control_paths;
 mod control_routes;
 mod faults;
+pub mod laws;
 mod methods;
 mod queries;
 mod registry_paths;
