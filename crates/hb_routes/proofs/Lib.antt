@@ -7,3 +7,4 @@ pub mod OneRoute
 pub mod Parameters
 pub mod Parts
 pub mod Tests
+pub mod WrittenPaths
