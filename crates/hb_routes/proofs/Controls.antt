@@ -133,10 +133,10 @@ projects-slashed : (rest : List ℕ) → slashed rest ≡ true → ((name : List
 projects-slashed rest more none =
     let path = codes "/harbor/projects/" ++ rest in
     let rules : option_and_then one (before_end (codes "/rules") rest) ≡ None =
-        elim (has-end (codes "/rules") rest) [
-          inl e ↦ ap (option_and_then one) e
-        | inr e ↦ ap (option_and_then one) e.2 ∙ ap (λ t. cond t (Some e.0) None) (none e.0 e.1)
-        ] in
+    elim (has-end (codes "/rules") rest) [
+      | inl e ↦ ap (option_and_then one) e
+      | inr e ↦ ap (option_and_then one) e.2 ∙ ap (λ t. cond t (Some e.0) None) (none e.0 e.1)
+    ] in
     by-parts path None None false None
     (all-between (codes "/harbor/projects/") rest ∙ ap (λ t. cond t (Some rest) None) (part-slashed rest more))
     (at-front (codes "/harbor/projects/") (codes "/rules") rest ∙ rules)
@@ -288,9 +288,9 @@ agree-by : (path : List ℕ) → AreBytes path → ((behind_front (codes "/harbo
 agree-by path small (inl none) =
     agrees-at path (option_and_then (first harbor_rows) (behind_front (codes "/harbor/") path)) None (ap (option_and_then (first harbor_rows)) none)
     (no-fronts path
-      (longer-front (codes "/harbor/") (codes "projects/") path none)
-      (other-text (codes "/harbor/") (codes "jobs") path none (is_same path (codes "/harbor/jobs")) refl)
-      (longer-front (codes "/harbor/") (codes "jobs/") path none))
+    (longer-front (codes "/harbor/") (codes "projects/") path none)
+    (other-text (codes "/harbor/") (codes "jobs") path none (is_same path (codes "/harbor/jobs")) refl)
+    (longer-front (codes "/harbor/") (codes "jobs/") path none))
 agree-by path small (inr (rest, e)) =
     let there : behind_front (codes "/harbor/") path ≡ Some rest = ap (behind_front (codes "/harbor/")) e ∙ behind-front (codes "/harbor/") rest in
     agrees-at path (option_and_then (first harbor_rows) (behind_front (codes "/harbor/") path)) (harbor_answer rest) (ap (option_and_then (first harbor_rows)) there ∙ first-inner rest)

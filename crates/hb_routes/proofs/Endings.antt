@@ -60,8 +60,8 @@ from_end : (ps : List (List ℕ)) → FromEnd ps
 from_end [] = inl refl
 from_end (p ∷ ps) =
     elim (from_end ps) [
-      inl none ↦ inr ([], p, ap (λ z. p ∷ z) none)
-    | inr more ↦ inr (p ∷ more.0, more.1, ap (λ z. p ∷ z) more.2)
+      | inl none ↦ inr ([], p, ap (λ z. p ∷ z) none)
+      | inr more ↦ inr (p ∷ more.0, more.1, ap (λ z. p ∷ z) more.2)
     ]
 
 -- one part more in front of the last two
@@ -72,13 +72,13 @@ regroup before b k l = simp append_assoc
 three-not : (before : List (List ℕ)) (k l : List ℕ) (s t u : Shape) → fits t k ≡ false → ends_in (s ∷ t ∷ u ∷ []) (before ++ k ∷ l ∷ []) ≡ false
 three-not before k l s t u unfit =
     elim (from_end before) [
-      inl none ↦ ap (λ z. ends_in (s ∷ t ∷ u ∷ []) (z ++ k ∷ l ∷ [])) none ∙ three-short k l s t u
-    | inr more ↦
-        ap (λ z. ends_in (s ∷ t ∷ u ∷ []) (z ++ k ∷ l ∷ [])) more.2
-        ∙ ap (ends_in (s ∷ t ∷ u ∷ [])) (regroup more.0 more.1 k l)
-        ∙ three more.0 more.1 k l s t u
-        ∙ ap (λ z. fits s more.1 && (z && (fits u l && true))) unfit
-        ∙ and-false (fits s more.1)
+      | inl none ↦ ap (λ z. ends_in (s ∷ t ∷ u ∷ []) (z ++ k ∷ l ∷ [])) none ∙ three-short k l s t u
+      | inr more ↦
+          ap (λ z. ends_in (s ∷ t ∷ u ∷ []) (z ++ k ∷ l ∷ [])) more.2
+          ∙ ap (ends_in (s ∷ t ∷ u ∷ [])) (regroup more.0 more.1 k l)
+          ∙ three more.0 more.1 k l s t u
+          ∙ ap (λ z. fits s more.1 && (z && (fits u l && true))) unfit
+          ∙ and-false (fits s more.1)
     ]
 
 -- ---- the first ending that fits
@@ -202,8 +202,8 @@ single (p ∷ before) k e = let long = ap length e in absurd (omega (arith, long
 before_last_part : (before : List (List ℕ)) (front name kind : List ℕ) → AreOf before front → IsLastPart front name kind → kind ≢ [] → (others : List (List ℕ)) × (before ≡ others ++ kind ∷ []) × AreOf others name
 before_last_part before front name kind h last some_kind =
     elim h [
-      inl e ↦ (last.before, e ∙ last.whole, last.of_front)
-    | inr e ↦ absurd (some_kind (single last.before kind (ap parts (sym e.1) ∙ last.whole)))
+      | inl e ↦ (last.before, e ∙ last.whole, last.of_front)
+      | inr e ↦ absurd (some_kind (single last.before kind (ap parts (sym e.1) ∙ last.whole)))
     ]
 
 module _ (others : List (List ℕ)) (name : List ℕ) (of_name : AreOf others name) (l : List ℕ) where
@@ -261,12 +261,12 @@ module _ (before : List (List ℕ)) (front name kind l : List ℕ) (of_front : A
       let b = Word (codes "blobs") in
       let w = Word (codes "uploads") in
       elim of_front [
-        inl e ↦
-          ap (λ ps. ends_in (b ∷ w ∷ u ∷ []) (ps ++ k ∷ l ∷ [])) (e ∙ last.whole)
-          ∙ ap (ends_in (b ∷ w ∷ u ∷ [])) (regroup last.before kind k l)
-          ∙ three last.before kind k l b w u
-          ∙ ap (λ z. z && (true && (fits u l && true))) other
-      | inr e ↦ ap (λ ps. ends_in (b ∷ w ∷ u ∷ []) (ps ++ k ∷ l ∷ [])) e.0 ∙ three-short k l b w u
+        | inl e ↦
+            ap (λ ps. ends_in (b ∷ w ∷ u ∷ []) (ps ++ k ∷ l ∷ [])) (e ∙ last.whole)
+            ∙ ap (ends_in (b ∷ w ∷ u ∷ [])) (regroup last.before kind k l)
+            ∙ three last.before kind k l b w u
+            ∙ ap (λ z. z && (true && (fits u l && true))) other
+        | inr e ↦ ap (λ ps. ends_in (b ∷ w ∷ u ∷ []) (ps ++ k ∷ l ∷ [])) e.0 ∙ three-short k l b w u
       ]
 
   pub no-upload-named : is_same kind (codes "blobs") ≡ false → by_ending (before ++ codes "uploads" ∷ l ∷ []) ≡ None

@@ -34,8 +34,8 @@ has-front w path = has-front-by w path (is_same (take (length w) path) w) refl
 pub longer-front : (w v path : List ℕ) → behind_front w path ≡ None → behind_front (w ++ v) path ≡ None
 longer-front w v path none =
     elim (has-front (w ++ v) path) [
-      inl e ↦ e
-    | inr e ↦ let there : behind_front w path ≡ Some (v ++ e.0) = ap (behind_front w) (e.1 ∙ append_assoc w v e.0) ∙ behind-front w (v ++ e.0) in cc
+      | inl e ↦ e
+      | inr e ↦ let there : behind_front w path ≡ Some (v ++ e.0) = ap (behind_front w) (e.1 ∙ append_assoc w v e.0) ∙ behind-front w (v ++ e.0) in cc
     ]
 
 -- nor is it the front and more

@@ -44,8 +44,8 @@ module _ {K : Type 0} where
   step-append b (([], k) ∷ rs) ss = step-append b rs ss
   step-append b ((x ∷ t, k) ∷ rs) ss =
       elim (eqb x b) as (λ v. cond v ((t, k) ∷ step b (rs ++ ss)) (step b (rs ++ ss)) ≡ cond v ((t, k) ∷ step b rs) (step b rs) ++ step b ss) [
-        true ↦ ap (λ z. (t, k) ∷ z) (step-append b rs ss)
-      | false ↦ step-append b rs ss
+        | true ↦ ap (λ z. (t, k) ∷ z) (step-append b rs ss)
+        | false ↦ step-append b rs ss
       ]
 
   -- a parameter takes no rows to rows

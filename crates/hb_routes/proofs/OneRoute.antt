@@ -213,7 +213,7 @@ decides-finish name id query =
     let digest = value_or_empty (codes "digest") query in
     decides-name name (λ n. WithDigest digest (λ d. WithId id (λ upload. Is (Ok (FinishUpload n upload d)))))
     (λ n. decides-digest digest (λ d. WithId id (λ upload. Is (Ok (FinishUpload n upload d))))
-      (λ d. decides-id id (λ upload. Is (Ok (FinishUpload n upload d))) (λ upload. decides-ok (FinishUpload n upload d))))
+    (λ d. decides-id id (λ upload. Is (Ok (FinishUpload n upload d))) (λ upload. decides-ok (FinishUpload n upload d))))
 
 decides-tags : (name query : List ℕ) → Decides (IsServed (Tags name) Get query)
 decides-tags name query =
@@ -221,7 +221,7 @@ decides-tags name query =
     let most_given = value_of (codes "n") query in
     decides-name name (λ n. For (IsTaken StandsForTag last_given) (λ last. For (IsMost most_given) (λ most. Is (Ok (ListTags n last most)))))
     (λ n. decides-for (IsTaken StandsForTag last_given) (λ last. For (IsMost most_given) (λ most. Is (Ok (ListTags n last most)))) (one-taken StandsForTag one-tag last_given)
-      (λ last. decides-for (IsMost most_given) (λ most. Is (Ok (ListTags n last most))) (one-most most_given) (λ most. decides-ok (ListTags n last most))))
+    (λ last. decides-for (IsMost most_given) (λ most. Is (Ok (ListTags n last most))) (one-most most_given) (λ most. decides-ok (ListTags n last most))))
 
 decides-put_project : (name query : List ℕ) → Decides (IsServed (Project name) Put query)
 decides-put_project name query =
@@ -229,7 +229,7 @@ decides-put_project name query =
     let version_given = value_of (codes "version") query in
     decides-project name (λ n. For (IsGiven StandsForLimit limit_given) (λ limit. For (IsGiven IsNumber version_given) (λ version. Is (Ok (PutProject n limit version)))))
     (λ n. decides-for (IsGiven StandsForLimit limit_given) (λ limit. For (IsGiven IsNumber version_given) (λ version. Is (Ok (PutProject n limit version)))) (one-given StandsForLimit one-limit limit_given)
-      (λ limit. decides-for (IsGiven IsNumber version_given) (λ version. Is (Ok (PutProject n limit version))) (one-given IsNumber one-number version_given) (λ version. decides-ok (PutProject n limit version))))
+    (λ limit. decides-for (IsGiven IsNumber version_given) (λ version. Is (Ok (PutProject n limit version))) (one-given IsNumber one-number version_given) (λ version. decides-ok (PutProject n limit version))))
 
 decides-served : (resource : Resource) (method : Method) (query : List ℕ) → Decides (IsServed resource method query)
 decides-served Base Get query = decides-ok BaseRoute

@@ -36,8 +36,8 @@ pub parts-append : (front last : List ℕ) → list_any (nat_eq 47) last ≡ fal
 parts-append [] last h = ap (λ ps. [] ∷ ps) (parts-one last h)
 parts-append (x ∷ front) last h =
     elim (eqb x 47) as (λ t. cond t ([] ∷ parts (front ++ 47 ∷ last)) (onto_first x (parts (front ++ 47 ∷ last))) ≡ cond t ([] ∷ parts front) (onto_first x (parts front)) ++ last ∷ []) [
-      true ↦ ap (λ ps. [] ∷ ps) (parts-append front last h)
-    | false ↦ ap (onto_first x) (parts-append front last h) ∙ onto_first-append x (parts front) last (some_part front)
+      | true ↦ ap (λ ps. [] ∷ ps) (parts-append front last h)
+      | false ↦ ap (onto_first x) (parts-append front last h) ∙ onto_first-append x (parts front) last (some_part front)
     ]
 
 -- the parts of a text, joined, are the text

@@ -1,4 +1,3 @@
-//! The router.
 ghost use Rattle.std.specs.Prelude.{◌≡◌, ◌≢◌, Ok, Err, IfOk, IfErr};
 ghost use Rattle.hb_routes.specs.Answers.{Gives};
 ghost use Rattle.hb_routes.specs.Routes.{IsServed, IsRouted};
@@ -35,7 +34,7 @@ impl Model for Router {
     ghost invariant = { λ router. router.controls ≡ control_rows };
 }
 
-// What a resource is asked for by a method.
+// What a method asks of a resource.
 fn serve(
     alloc: Global,
     resource: Resource<'_>,
@@ -59,7 +58,7 @@ fn serve(
 }
 
 impl Router {
-    /// Makes a router.
+    /// A router. All routers read alike.
     pub fn new(alloc: Global) -> Result<Router, Memory> {
         match control_matcher(alloc) {
             Ok(controls) => Ok(Router { controls }),
@@ -67,7 +66,12 @@ impl Router {
         }
     }
 
-    /// The route of a request.
+    /// The route of a request: what its method asks of what the path of its target names. Work is linear
+    /// in the length of the target.
+    ///
+    /// Of several refusals the first in the order of [`RouteFault`] is given: an unknown path, a method that
+    /// what the path names isn't served by, a name outside its grammar, and then a tag or a digest. Methods
+    /// compare as bytes (RFC 9110, section 9.1). `Memory` may come in place of any answer.
     pub fn route(&self, alloc: Global, method: &[u8], target: &[u8]) -> Result<Route, RouteFault>
         ensures ok { IfOk result (λ route. IsRouted method.now target.now (Ok route)) }
         ensures err { IfErr result (λ fault. fault ≢ RouteFault.Memory → IsRouted method.now target.now (Err fault)) }

@@ -1,6 +1,6 @@
 use hb_text::{Digest, Name, ProjectName, Reference, Tag};
 
-/// The most tags that a list has, and how many it has at most where a request doesn't say.
+/// The most tags that one list has.
 pub const MOST_TAGS: u32 = 1_000;
 
 /// A control value of a query.
@@ -10,6 +10,7 @@ pub enum Given<T> {
     Absent,
     /// The query has it, outside its grammar.
     Invalid,
+    /// The query has this value.
     Value(T),
 }
 
@@ -22,10 +23,10 @@ pub enum WantedJob {
     Retain { project: Given<ProjectName> },
 }
 
-/// What a request asks for. The paths of the first thirteen are those of the OCI Distribution Specification 1.1,
-/// "Endpoints"; the others control the registry.
+/// What a request asks for. Requests under `/v2/` are those of the OCI Distribution Specification 1.1
+/// ("Endpoints"); those under `/harbor/` control the registry.
 ///
-/// The number of an upload or of a job is `None` where its text in the path is no number, so that it names none.
+/// The number of an upload or of a job is `None` where its text in the path is no number: then it names none.
 #[derive(Debug, PartialEq, Eq, Drop)]
 pub enum Route {
     /// `GET /v2/`: whether this is a registry.

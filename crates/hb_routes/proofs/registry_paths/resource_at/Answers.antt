@@ -28,12 +28,12 @@ returns-else-eq-4 c = λ before of_front.
     let blobs = same-said c.eq-else-eq.result false c.args.kind.now c.as_slice-else-eq.result.now (codes "blobs") c.as_slice-else-eq.ensures c.eq-else-eq.ensures c.if-eq-2.false in
     let manifests = same-said c.eq-else-eq-2.result false c.args.kind.now c.as_slice-else-eq-2.result.now (codes "manifests") c.as_slice-else-eq-2.ensures c.eq-else-eq-2.ensures c.if-eq-3.false in
     let tags : (is_same c.args.kind.now (codes "tags") && (is_same c.args.last.now (codes "list") && true)) ≡ false =
-        elim c.else-eq-4.branch [
-          else-eq-4-via-then-eq-4+else-eq-5 w ↦
-            not-both (is_same c.args.kind.now (codes "tags")) (is_same c.args.last.now (codes "list")) (same-said w.eq-then-eq-4.result false c.args.last.now w.as_slice-then-eq-4.result.now (codes "list") w.as_slice-then-eq-4.ensures w.eq-then-eq-4.ensures w.if-eq-5.false)
-        | else-eq-4-via-else-eq-4 w ↦
-            ap (λ (t : Bool). t && (is_same c.args.last.now (codes "list") && true)) (same-said c.eq-else-eq-3.result false c.args.kind.now c.as_slice-else-eq-3.result.now (codes "tags") c.as_slice-else-eq-3.ensures c.eq-else-eq-3.ensures w.if-eq-4.false)
-        ] in
+    elim c.else-eq-4.branch [
+      | else-eq-4-via-then-eq-4+else-eq-5 w ↦
+          not-both (is_same c.args.kind.now (codes "tags")) (is_same c.args.last.now (codes "list")) (same-said w.eq-then-eq-4.result false c.args.last.now w.as_slice-then-eq-4.result.now (codes "list") w.as_slice-then-eq-4.ensures w.eq-then-eq-4.ensures w.if-eq-5.false)
+      | else-eq-4-via-else-eq-4 w ↦
+          ap (λ (t : Bool). t && (is_same c.args.last.now (codes "list") && true)) (same-said c.eq-else-eq-3.result false c.args.kind.now c.as_slice-else-eq-3.result.now (codes "tags") c.as_slice-else-eq-3.ensures c.eq-else-eq-3.ensures w.if-eq-4.false)
+    ] in
     sym (none-named before c.args.kind.now c.args.last.now tags uploads blobs manifests)
   where
     not-both : (a b : Bool) → b ≡ false → (a && (b && true)) ≡ false
