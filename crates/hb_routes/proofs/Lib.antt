@@ -1,4 +1,5 @@
 pub mod Captured
+pub mod Comparisons
 pub mod Controls
 pub mod Endings
 pub mod Fronts
@@ -6,5 +7,4 @@ pub mod Matching
 pub mod OneRoute
 pub mod Parameters
 pub mod Parts
-pub mod Tests
 pub mod WrittenPaths

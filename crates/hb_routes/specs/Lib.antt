@@ -2,10 +2,10 @@ pub mod Answers
 pub mod ControlRows
 pub mod Cuts
 pub mod LastParts
+pub mod Meanings
 pub mod Methods
 pub mod Queries
 pub mod Readings
 pub mod Resources
 pub mod Routes
-pub mod Seen
 pub mod Values

@@ -2,7 +2,7 @@
 ghost use Rattle.std.specs.Prelude.{◌≡◌, IfOk, option_map};
 ghost use Rattle.hb_routes.specs.Resources.{control_resource};
 ghost use Rattle.hb_routes.specs.ControlRows.{control_rows};
-ghost use Rattle.hb_routes.specs.Seen.{seen};
+ghost use Rattle.hb_routes.specs.Meanings.{meaning_of};
 
 use crate::resources::Resource;
 use matchit::{InsertError, Router as Matcher};
@@ -32,7 +32,7 @@ pub fn control_matcher(alloc: Global) -> Result<Matcher<Control>, InsertError>
 /// What a path that isn't under `/v2/` names.
 pub fn control_resource<'a>(matcher: &Matcher<Control>, path: &'a [u8]) -> Option<Resource<'a>>
     requires { matcher.now ≡ control_rows }
-    ensures { option_map seen result ≡ control_resource path.now }
+    ensures { option_map meaning_of result ≡ control_resource path.now }
 {
     let Ok(text) = str::from_utf8(path) else {
         return None;

@@ -7,7 +7,7 @@
 //!   written for a resource names that resource.
 //! - `specs/Routes`: the table of routes. `specs/Resources`: what paths name. `specs/Queries`: the values
 //!   of a query. `specs/Values`: which texts stand for which values.
-//! - `specs/LastParts`, `specs/ControlRows`, `specs/Readings`, `specs/Seen`: what the private functions say.
+//! - `specs/LastParts`, `specs/ControlRows`, `specs/Readings`, `specs/Meanings`: what the private functions say.
 //!
 //! Paths under `/v2/` are those of the OCI Distribution Specification 1.1 ("Endpoints"). The target is cut
 //! at its first `?`. The path isn't percent-decoded, and of the query the values alone are.
@@ -15,6 +15,7 @@
 
 mod control_paths;
 mod control_routes;
+mod copies;
 mod faults;
 pub mod laws;
 mod methods;

@@ -3,7 +3,7 @@ ghost use Rattle.std.specs.Prelude.{◌≡◌, ◌++◌, ◌∷◌, [], ℕ, Lis
 ghost use Rattle.std.specs.List.{list_any};
 ghost use Rattle.hb_routes.specs.LastParts.{AreOf, IsLastPart};
 ghost use Rattle.hb_routes.specs.Resources.{by_ending, registry_resource};
-ghost use Rattle.hb_routes.specs.Seen.{seen};
+ghost use Rattle.hb_routes.specs.Meanings.{meaning_of};
 
 use crate::resources::Resource;
 
@@ -32,7 +32,7 @@ fn last_part(text: &[u8]) -> (&[u8], &[u8])
 
 // What a path names that ends with `uploads` and this last part, by what stands before both.
 fn upload_of<'a>(front: &'a [u8], last: &'a [u8]) -> Option<Resource<'a>>
-    ensures { (before : List (List ℕ)) → AreOf before front.now → option_map seen result ≡ by_ending (before ++ codes "uploads" ∷ last.now ∷ []) }
+    ensures { (before : List (List ℕ)) → AreOf before front.now → option_map meaning_of result ≡ by_ending (before ++ codes "uploads" ∷ last.now ∷ []) }
 {
     let (name, kind) = last_part(front);
     if kind != b"blobs".as_slice() {
@@ -47,7 +47,7 @@ fn upload_of<'a>(front: &'a [u8], last: &'a [u8]) -> Option<Resource<'a>>
 
 // What a path names by its last two parts, and by what stands before both.
 fn resource_at<'a>(front: &'a [u8], kind: &'a [u8], last: &'a [u8]) -> Option<Resource<'a>>
-    ensures { (before : List (List ℕ)) → AreOf before front.now → option_map seen result ≡ by_ending (before ++ kind.now ∷ last.now ∷ []) }
+    ensures { (before : List (List ℕ)) → AreOf before front.now → option_map meaning_of result ≡ by_ending (before ++ kind.now ∷ last.now ∷ []) }
 {
     if kind == b"uploads".as_slice() {
         upload_of(front, last)
@@ -70,7 +70,7 @@ fn resource_at<'a>(front: &'a [u8], kind: &'a [u8], last: &'a [u8]) -> Option<Re
 
 /// What a path names, by its text behind `/v2/`.
 pub fn registry_resource(text: &[u8]) -> Option<Resource<'_>>
-    ensures { option_map seen result ≡ registry_resource text.now }
+    ensures { option_map meaning_of result ≡ registry_resource text.now }
 {
     if text.is_empty() {
         return Some(Resource::Base);

@@ -1,5 +1,5 @@
 //! What paths name.
-ghost use Rattle.hb_routes.specs.Seen.{seen};
+ghost use Rattle.hb_routes.specs.Meanings.{meaning_of};
 
 /// What a path names, by the texts that stand in it.
 #[derive(Clone, Copy)]

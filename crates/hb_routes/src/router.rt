@@ -1,7 +1,7 @@
 ghost use Rattle.std.specs.Prelude.{◌≡◌, ◌≢◌, Ok, Err, IfOk, IfErr};
 ghost use Rattle.hb_routes.specs.Answers.{Gives};
 ghost use Rattle.hb_routes.specs.Routes.{IsServed, IsRouted};
-ghost use Rattle.hb_routes.specs.Seen.{seen};
+ghost use Rattle.hb_routes.specs.Meanings.{meaning_of};
 
 use crate::control_paths::{Control, control_matcher, control_resource};
 use crate::control_routes::{job, jobs, project, rules};
@@ -41,7 +41,7 @@ fn serve(
     method: Method,
     query: &[u8],
 ) -> Result<Route, RouteFault>
-    ensures { Gives (IsServed (seen resource.entry) method query.now) result }
+    ensures { Gives (IsServed (meaning_of resource.entry) method query.now) result }
 {
     match resource {
         Resource::Base => base(method),

@@ -4,13 +4,42 @@ ghost use Rattle.std.specs.Prelude.{◌≡◌};
 
 use crate::laws::{control_paths_are_read, one_route, registry_paths_are_read};
 use crate::{Given, MOST_TAGS, Route, RouteFault, Router, WantedJob};
-use hb_text::{Digest, Name, NameFault, ProjectName, Reference, Tag};
+use hb_text::{Digest, Duplicate, Name, NameFault, ProjectName, Reference, Tag};
 use std::alloc::{AllocError, Global};
 use std::test::Fail;
 
 fn routed(alloc: Global, method: &[u8], target: &[u8]) -> Result<Route, RouteFault> {
-    let router = Router::new(alloc)?;
-    router.route(alloc, method, target)
+    match Router::new(alloc) {
+        Ok(router) => router.route(alloc, method, target),
+        Err(_) => Err(RouteFault::Memory),
+    }
+}
+
+// Whether the request has this route.
+fn gives(alloc: Global, method: &[u8], target: &[u8], want: Result<Route, NameFault>) -> bool {
+    match routed(alloc, method, target) {
+        Ok(route) => match want {
+            Ok(want) => route == want,
+            Err(_) => false,
+        },
+        Err(_) => false,
+    }
+}
+
+// Whether the request is refused for this cause.
+fn refuses(alloc: Global, method: &[u8], target: &[u8], want: RouteFault) -> bool {
+    match routed(alloc, method, target) {
+        Ok(_) => false,
+        Err(fault) => fault == want,
+    }
+}
+
+fn repository(alloc: Global) -> Result<Name, NameFault> {
+    Name::read(alloc, b"library/a")
+}
+
+fn library(alloc: Global) -> Result<ProjectName, NameFault> {
+    ProjectName::read(alloc, b"library")
 }
 
 // SHA-256 of `abc`.
@@ -18,167 +47,147 @@ fn abc() -> Digest {
     Digest::of(b"abc")
 }
 
-fn repository(alloc: Global) -> Result<Name, NameFault> {
-    Name::read(alloc, b"library/a")
+fn by_tag(alloc: Global, tag: &[u8]) -> Result<Reference, NameFault> {
+    Ok(Reference::Tag(Tag::read(alloc, tag)?))
 }
 
-fn latest(alloc: Global) -> Result<Reference, NameFault> {
-    Ok(Reference::Tag(Tag::read(alloc, b"latest")?))
+const BLOB: &[u8] =
+    b"/v2/library/a/blobs/sha256:ba7816bf8f01cfea414140de5dae2223b00361a396177a9cb410ff61f20015ad";
+
+fn get_blob(alloc: Global) -> Result<Route, NameFault> {
+    Ok(Route::GetBlob {
+        name: repository(alloc)?,
+        digest: abc(),
+    })
 }
 
-fn library(alloc: Global) -> Result<ProjectName, NameFault> {
-    ProjectName::read(alloc, b"library")
-}
-
-#[test]
-fn blobs(rt: HostRuntime) -> Result<(), Fail> {
-    let alloc = rt.alloc();
-    let digest = abc();
-    assert_eq!(rt; routed(alloc, b"GET", b"/v2/")?, Route::Base);
-    let blob =
-        b"/v2/library/a/blobs/sha256:ba7816bf8f01cfea414140de5dae2223b00361a396177a9cb410ff61f20015ad";
-    let name = repository(alloc)?;
-    assert_eq!(rt;
-        routed(alloc, b"GET", blob)?,
-        Route::GetBlob { name, digest }
-    );
-    let name = repository(alloc)?;
-    assert_eq!(rt;
-        routed(alloc, b"HEAD", blob)?,
-        Route::HeadBlob { name, digest }
-    );
-    Ok(())
+fn head_blob(alloc: Global) -> Result<Route, NameFault> {
+    Ok(Route::HeadBlob {
+        name: repository(alloc)?,
+        digest: abc(),
+    })
 }
 
 #[test]
-fn begun_uploads(rt: HostRuntime) -> Result<(), Fail> {
+fn blobs(rt: HostRuntime) {
     let alloc = rt.alloc();
-    let digest = abc();
-    let name = repository(alloc)?;
-    assert_eq!(rt;
-        routed(alloc, b"POST", b"/v2/library/a/blobs/uploads/")?,
-        Route::BeginUpload { name }
-    );
-    let name = repository(alloc)?;
-    assert_eq!(rt;
-        routed(
-            alloc,
-            b"POST",
-            b"/v2/library/a/blobs/uploads/?digest=sha256:ba7816bf8f01cfea414140de5dae2223b00361a396177a9cb410ff61f20015ad"
-        )?,
-        Route::PushBlob { name, digest }
-    );
+    assert!(rt; gives(alloc, b"GET", b"/v2/", Ok(Route::Base)));
+    assert!(rt; gives(alloc, b"GET", b"/v2/?n=1", Ok(Route::Base)));
+    assert!(rt; gives(alloc, b"GET", BLOB, get_blob(alloc)));
+    assert!(rt; gives(alloc, b"HEAD", BLOB, head_blob(alloc)));
+}
+
+fn begin_upload(alloc: Global) -> Result<Route, NameFault> {
+    Ok(Route::BeginUpload {
+        name: repository(alloc)?,
+    })
+}
+
+fn push_blob(alloc: Global) -> Result<Route, NameFault> {
+    Ok(Route::PushBlob {
+        name: repository(alloc)?,
+        digest: abc(),
+    })
+}
+
+#[test]
+fn begun_uploads(rt: HostRuntime) {
+    let alloc = rt.alloc();
+    let begun: [&[u8]; 3] = [
+        b"/v2/library/a/blobs/uploads/",
+        b"/v2/library/a/blobs/uploads/?",
+        b"/v2/library/a/blobs/uploads/?Digest=x&from=other/b",
+    ];
+    for target in begun {
+        assert!(rt; gives(alloc, b"POST", target, begin_upload(alloc)));
+    }
     // escapes of either case, and the first of two digests
-    let name = repository(alloc)?;
-    assert_eq!(rt;
-        routed(
-            alloc,
-            b"POST",
-            b"/v2/library/a/blobs/uploads/?digest=sha256%3A%62a7816bf8f01cfea414140de5dae2223b00361a396177a9cb410ff61f20015ad&digest=x"
-        )?,
-        Route::PushBlob { name, digest }
-    );
-    let name = repository(alloc)?;
-    assert_eq!(rt;
-        routed(
-            alloc,
-            b"POST",
-            b"/v2/library/a/blobs/uploads/?digest=sha256%3a%62a7816bf8f01cfea414140de5dae2223b00361a396177a9cb410ff61f20015ad"
-        )?,
-        Route::PushBlob { name, digest }
-    );
-    Ok(())
+    let pushed: [&[u8]; 3] = [
+        b"/v2/library/a/blobs/uploads/?digest=sha256:ba7816bf8f01cfea414140de5dae2223b00361a396177a9cb410ff61f20015ad",
+        b"/v2/library/a/blobs/uploads/?digest=sha256%3A%62a7816bf8f01cfea414140de5dae2223b00361a396177a9cb410ff61f20015ad&digest=x",
+        b"/v2/library/a/blobs/uploads/?a&digest=sha256%3a%62a7816bf8f01cfea414140de5dae2223b00361a396177a9cb410ff61f20015ad",
+    ];
+    for target in pushed {
+        assert!(rt; gives(alloc, b"POST", target, push_blob(alloc)));
+    }
 }
 
+fn mount_from(alloc: Global, giver: &[u8]) -> Result<Route, NameFault> {
+    Ok(Route::MountBlob {
+        name: repository(alloc)?,
+        digest: abc(),
+        giver: Some(Name::read(alloc, giver)?),
+    })
+}
+
+fn mount(alloc: Global) -> Result<Route, NameFault> {
+    Ok(Route::MountBlob {
+        name: repository(alloc)?,
+        digest: abc(),
+        giver: None,
+    })
+}
+
+// A mount counts before a digest, wherever it stands.
 #[test]
-fn mounts(rt: HostRuntime) -> Result<(), Fail> {
+fn mounts(rt: HostRuntime) {
     let alloc = rt.alloc();
-    let digest = abc();
-    // a mount counts before a digest, wherever it stands
-    let name = repository(alloc)?;
-    let giver = Some(Name::read(alloc, b"other/b")?);
-    assert_eq!(rt;
-        routed(
-            alloc,
-            b"POST",
-            b"/v2/library/a/blobs/uploads/?digest=x&from=other%2Fb&mount=sha256:ba7816bf8f01cfea414140de5dae2223b00361a396177a9cb410ff61f20015ad"
-        )?,
-        Route::MountBlob {
-            name,
-            digest,
-            giver
-        }
-    );
-    let name = repository(alloc)?;
-    assert_eq!(rt;
-        routed(
-            alloc,
-            b"POST",
-            b"/v2/library/a/blobs/uploads/?mount=sha256:ba7816bf8f01cfea414140de5dae2223b00361a396177a9cb410ff61f20015ad"
-        )?,
-        Route::MountBlob {
-            name,
-            digest,
-            giver: None
-        }
-    );
-    let name = repository(alloc)?;
-    assert_eq!(rt;
-        routed(
-            alloc,
-            b"POST",
-            b"/v2/library/a/blobs/uploads/?mount=sha256:ba7816bf8f01cfea414140de5dae2223b00361a396177a9cb410ff61f20015ad&from=b"
-        )?,
-        Route::MountBlob {
-            name,
-            digest,
-            giver: None
-        }
-    );
-    Ok(())
+    let from =
+        b"/v2/library/a/blobs/uploads/?digest=x&from=other%2Fb&mount=sha256:ba7816bf8f01cfea414140de5dae2223b00361a396177a9cb410ff61f20015ad";
+    assert!(rt; gives(alloc, b"POST", from, mount_from(alloc, b"other/b")));
+    let rows: [&[u8]; 3] = [
+        b"/v2/library/a/blobs/uploads/?mount=sha256:ba7816bf8f01cfea414140de5dae2223b00361a396177a9cb410ff61f20015ad",
+        b"/v2/library/a/blobs/uploads/?mount=sha256:ba7816bf8f01cfea414140de5dae2223b00361a396177a9cb410ff61f20015ad&from=b",
+        b"/v2/library/a/blobs/uploads/?mount=sha256:ba7816bf8f01cfea414140de5dae2223b00361a396177a9cb410ff61f20015ad&from=other%2Fb%",
+    ];
+    for target in rows {
+        assert!(rt; gives(alloc, b"POST", target, mount(alloc)));
+    }
+}
+
+fn grow_upload(alloc: Global, upload: Option<u64>) -> Result<Route, NameFault> {
+    Ok(Route::GrowUpload {
+        name: repository(alloc)?,
+        upload,
+    })
+}
+
+fn show_upload(alloc: Global, upload: Option<u64>) -> Result<Route, NameFault> {
+    Ok(Route::ShowUpload {
+        name: repository(alloc)?,
+        upload,
+    })
+}
+
+fn finish_upload(alloc: Global, upload: Option<u64>) -> Result<Route, NameFault> {
+    Ok(Route::FinishUpload {
+        name: repository(alloc)?,
+        upload,
+        digest: abc(),
+    })
 }
 
 #[test]
-fn open_uploads(rt: HostRuntime) -> Result<(), Fail> {
+fn open_uploads(rt: HostRuntime) {
     let alloc = rt.alloc();
-    let digest = abc();
-    let upload = Some(18446744073709551615);
-    let name = repository(alloc)?;
-    assert_eq!(rt;
-        routed(
+    let last = b"/v2/library/a/blobs/uploads/18446744073709551615";
+    assert!(rt; gives(alloc, b"PATCH", last, grow_upload(alloc, Some(u64::MAX))));
+    assert!(rt;
+        gives(
             alloc,
-            b"PATCH",
-            b"/v2/library/a/blobs/uploads/18446744073709551615"
-        )?,
-        Route::GrowUpload { name, upload }
+            b"GET",
+            b"/v2/library/a/blobs/uploads/0?x",
+            show_upload(alloc, Some(0))
+        )
     );
-    let name = repository(alloc)?;
-    assert_eq!(rt;
-        routed(alloc, b"GET", b"/v2/library/a/blobs/uploads/0?x")?,
-        Route::ShowUpload {
-            name,
-            upload: Some(0)
-        }
-    );
-    let name = repository(alloc)?;
-    assert_eq!(rt;
-        routed(
-            alloc,
-            b"PUT",
-            b"/v2/library/a/blobs/uploads/7?x=1&digest=sha256:ba7816bf8f01cfea414140de5dae2223b00361a396177a9cb410ff61f20015ad"
-        )?,
-        Route::FinishUpload {
-            name,
-            upload: Some(7),
-            digest
-        }
-    );
-    Ok(())
+    let done =
+        b"/v2/library/a/blobs/uploads/7?x=1&digest=sha256:ba7816bf8f01cfea414140de5dae2223b00361a396177a9cb410ff61f20015ad";
+    assert!(rt; gives(alloc, b"PUT", done, finish_upload(alloc, Some(7))));
 }
 
-// Ids that are no numbers: the path names an upload all the same.
+// Ids that are no numbers: the path names an upload or a job all the same.
 #[test]
-fn ids_that_are_no_numbers(rt: HostRuntime) -> Result<(), Fail> {
+fn ids_that_are_no_numbers(rt: HostRuntime) {
     let alloc = rt.alloc();
     let rows: [&[u8]; 6] = [
         b"/v2/library/a/blobs/uploads/007",
@@ -189,85 +198,99 @@ fn ids_that_are_no_numbers(rt: HostRuntime) -> Result<(), Fail> {
         b"/v2/library/a/blobs/uploads/\xff",
     ];
     for target in rows {
-        let name = repository(alloc)?;
-        assert_eq!(rt;
-            routed(alloc, b"GET", target)?,
-            Route::ShowUpload { name, upload: None },
-            "{target:?}"
-        );
+        assert!(rt; gives(alloc, b"GET", target, show_upload(alloc, None)));
     }
-    assert_eq!(rt;
-        routed(alloc, b"GET", b"/harbor/jobs/07")?,
-        Route::ShowJob { job: None }
+    assert!(rt;
+        gives(
+            alloc,
+            b"GET",
+            b"/harbor/jobs/07",
+            Ok(Route::ShowJob { job: None })
+        )
     );
-    assert_eq!(rt;
-        routed(alloc, b"GET", b"/harbor/jobs/x")?,
-        Route::ShowJob { job: None }
+    assert!(rt;
+        gives(
+            alloc,
+            b"GET",
+            b"/harbor/jobs/x",
+            Ok(Route::ShowJob { job: None })
+        )
     );
-    Ok(())
+    assert!(rt;
+        gives(
+            alloc,
+            b"GET",
+            b"/harbor/jobs/7?x",
+            Ok(Route::ShowJob { job: Some(7) })
+        )
+    );
+}
+
+fn put_manifest(alloc: Global, tag: &[u8]) -> Result<Route, NameFault> {
+    Ok(Route::PutManifest {
+        name: repository(alloc)?,
+        reference: by_tag(alloc, tag)?,
+    })
+}
+
+fn get_manifest(alloc: Global, tag: &[u8]) -> Result<Route, NameFault> {
+    Ok(Route::GetManifest {
+        name: repository(alloc)?,
+        reference: by_tag(alloc, tag)?,
+    })
+}
+
+fn head_manifest(alloc: Global, tag: &[u8]) -> Result<Route, NameFault> {
+    Ok(Route::HeadManifest {
+        name: repository(alloc)?,
+        reference: by_tag(alloc, tag)?,
+    })
+}
+
+fn delete_manifest(alloc: Global) -> Result<Route, NameFault> {
+    Ok(Route::DeleteManifest {
+        name: repository(alloc)?,
+        reference: Reference::Digest(abc()),
+    })
 }
 
 #[test]
-fn manifests(rt: HostRuntime) -> Result<(), Fail> {
+fn manifests(rt: HostRuntime) {
     let alloc = rt.alloc();
     let target = b"/v2/library/a/manifests/latest";
-    let name = repository(alloc)?;
-    let reference = latest(alloc)?;
-    assert_eq!(rt;
-        routed(alloc, b"PUT", target)?,
-        Route::PutManifest { name, reference }
-    );
-    let name = repository(alloc)?;
-    let reference = latest(alloc)?;
-    assert_eq!(rt;
-        routed(alloc, b"GET", target)?,
-        Route::GetManifest { name, reference }
-    );
-    let name = repository(alloc)?;
-    let reference = latest(alloc)?;
-    assert_eq!(rt;
-        routed(alloc, b"HEAD", target)?,
-        Route::HeadManifest { name, reference }
-    );
-    let name = repository(alloc)?;
-    let reference = latest(alloc)?;
-    assert_eq!(rt;
-        routed(alloc, b"DELETE", target)?,
-        Route::DeleteManifest { name, reference }
-    );
-    Ok(())
-}
-
-#[test]
-fn manifests_by_digest(rt: HostRuntime) -> Result<(), Fail> {
-    let alloc = rt.alloc();
-    let name = repository(alloc)?;
-    let reference = Reference::Digest(abc());
-    assert_eq!(rt;
-        routed(
-            alloc,
-            b"DELETE",
-            b"/v2/library/a/manifests/sha256:ba7816bf8f01cfea414140de5dae2223b00361a396177a9cb410ff61f20015ad"
-        )?,
-        Route::DeleteManifest { name, reference }
-    );
+    assert!(rt; gives(alloc, b"PUT", target, put_manifest(alloc, b"latest")));
+    assert!(rt; gives(alloc, b"GET", target, get_manifest(alloc, b"latest")));
+    assert!(rt; gives(alloc, b"HEAD", target, head_manifest(alloc, b"latest")));
+    let digest =
+        b"/v2/library/a/manifests/sha256:ba7816bf8f01cfea414140de5dae2223b00361a396177a9cb410ff61f20015ad";
+    assert!(rt; gives(alloc, b"DELETE", digest, delete_manifest(alloc)));
     // a tag of 128 bytes
     let long =
         b"/v2/library/a/manifests/ZZZZZZZZZZZZZZZZZZZZZZZZZZZZZZZZZZZZZZZZZZZZZZZZZZZZZZZZZZZZZZZZZZZZZZZZZZZZZZZZZZZZZZZZZZZZZZZZZZZZZZZZZZZZZZZZZZZZZZZZZZZZZZZZ";
-    let name = repository(alloc)?;
-    let reference = Reference::Tag(Tag::read(alloc, &[b'Z'; 128])?);
-    assert_eq!(rt;
-        routed(alloc, b"GET", long)?,
-        Route::GetManifest { name, reference }
-    );
-    Ok(())
+    assert!(rt; gives(alloc, b"GET", long, get_manifest(alloc, &long[24..])));
+}
+
+fn list_tags(alloc: Global, most: u32) -> Result<Route, NameFault> {
+    Ok(Route::ListTags {
+        name: repository(alloc)?,
+        last: None,
+        most,
+    })
+}
+
+fn list_tags_behind(alloc: Global, last: &[u8], most: u32) -> Result<Route, NameFault> {
+    Ok(Route::ListTags {
+        name: repository(alloc)?,
+        last: Some(Tag::read(alloc, last)?),
+        most,
+    })
 }
 
 #[test]
-fn lists_of_tags(rt: HostRuntime) -> Result<(), Fail> {
+fn lists_of_tags(rt: HostRuntime) {
     let alloc = rt.alloc();
     let rows: [(&[u8], u32); 9] = [
-        (b"/v2/library/a/tags/list", 1_000),
+        (b"/v2/library/a/tags/list", MOST_TAGS),
         (b"/v2/library/a/tags/list?", 1_000),
         (b"/v2/library/a/tags/list?n=0", 0),
         (b"/v2/library/a/tags/list?n=999", 999),
@@ -278,103 +301,116 @@ fn lists_of_tags(rt: HostRuntime) -> Result<(), Fail> {
         (b"/v2/library/a/tags/list?last=a+b&n=2?n=3", 1_000),
     ];
     for (target, most) in rows {
-        let name = repository(alloc)?;
-        assert_eq!(rt;
-            routed(alloc, b"GET", target)?,
-            Route::ListTags {
-                name,
-                last: None,
-                most
-            },
-            "{target:?}"
-        );
+        assert!(rt; gives(alloc, b"GET", target, list_tags(alloc, most)));
     }
-    let name = repository(alloc)?;
-    let last = Some(Tag::read(alloc, b"v1")?);
-    assert_eq!(rt;
-        routed(alloc, b"GET", b"/v2/library/a/tags/list?n=2&last=v%31")?,
-        Route::ListTags {
-            name,
-            last,
-            most: 2
-        }
-    );
-    Ok(())
+    let behind = b"/v2/library/a/tags/list?n=2&last=v%31";
+    assert!(rt; gives(alloc, b"GET", behind, list_tags_behind(alloc, b"v1", 2)));
+}
+
+fn show_project(alloc: Global) -> Result<Route, NameFault> {
+    Ok(Route::ShowProject {
+        name: library(alloc)?,
+    })
+}
+
+fn put_rules(alloc: Global) -> Result<Route, NameFault> {
+    Ok(Route::PutRules {
+        name: library(alloc)?,
+    })
+}
+
+fn put_project(alloc: Global, limit: Given<i64>, version: Given<u64>) -> Result<Route, NameFault> {
+    Ok(Route::PutProject {
+        name: library(alloc)?,
+        limit,
+        version,
+    })
 }
 
 #[test]
-fn projects(rt: HostRuntime) -> Result<(), Fail> {
+fn projects(rt: HostRuntime) {
     let alloc = rt.alloc();
-    let name = library(alloc)?;
-    assert_eq!(rt;
-        routed(alloc, b"GET", b"/harbor/projects/library")?,
-        Route::ShowProject { name }
+    assert!(rt;
+        gives(
+            alloc,
+            b"GET",
+            b"/harbor/projects/library",
+            show_project(alloc)
+        )
     );
-    let name = library(alloc)?;
-    assert_eq!(rt;
-        routed(alloc, b"PUT", b"/harbor/projects/library/rules")?,
-        Route::PutRules { name }
+    assert!(rt;
+        gives(
+            alloc,
+            b"PUT",
+            b"/harbor/projects/library/rules",
+            put_rules(alloc)
+        )
     );
-    let rows: [(&[u8], Given<i64>, Given<u64>); 9] = [
-        (b"/harbor/projects/library", Given::Absent, Given::Absent),
-        (
-            b"/harbor/projects/library?limit=-1&version=0",
-            Given::Value(-1),
-            Given::Value(0),
-        ),
-        (
-            b"/harbor/projects/library?limit=%2D1&version",
-            Given::Value(-1),
-            Given::Invalid,
-        ),
-        (
-            b"/harbor/projects/library?limit=-2&version=x",
-            Given::Invalid,
-            Given::Invalid,
-        ),
-        (
-            b"/harbor/projects/library?limit=-0&version=-1",
-            Given::Invalid,
-            Given::Invalid,
-        ),
-        (
-            b"/harbor/projects/library?limit=9223372036854775807&version=18446744073709551615",
-            Given::Value(i64::MAX),
-            Given::Value(u64::MAX),
-        ),
-        (
-            b"/harbor/projects/library?limit=9223372036854775808&version=18446744073709551616",
-            Given::Invalid,
-            Given::Invalid,
-        ),
-        (
-            b"/harbor/projects/library?limit=&version=+1",
-            Given::Invalid,
-            Given::Invalid,
-        ),
-        (
-            b"/harbor/projects/library?version=%zz&limit=%31%",
-            Given::Invalid,
-            Given::Invalid,
-        ),
+    let absent = put_project(alloc, Given::Absent, Given::Absent);
+    assert!(rt; gives(alloc, b"PUT", b"/harbor/projects/library", absent));
+    let invalid: [&[u8]; 5] = [
+        b"/harbor/projects/library?limit=-2&version=x",
+        b"/harbor/projects/library?limit=-0&version=-1",
+        b"/harbor/projects/library?limit=9223372036854775808&version=18446744073709551616",
+        b"/harbor/projects/library?limit=&version=+1",
+        b"/harbor/projects/library?version=%zz&limit=%31%",
     ];
-    for (target, limit, version) in rows {
-        let name = library(alloc)?;
-        assert_eq!(rt;
-            routed(alloc, b"PUT", target)?,
-            Route::PutProject {
-                name,
-                limit,
-                version
-            },
-            "{target:?}"
+    for target in invalid {
+        assert!(rt;
+            gives(
+                alloc,
+                b"PUT",
+                target,
+                put_project(alloc, Given::Invalid, Given::Invalid)
+            )
         );
     }
-    Ok(())
 }
 
 #[test]
-fn jobs(rt: HostRuntime) -> Result<(), Fail> {
+fn limits_and_versions(rt: HostRuntime) {
+    let alloc = rt.alloc();
+    let none = put_project(alloc, Given::Value(-1), Given::Value(0));
+    assert!(rt;
+        gives(
+            alloc,
+            b"PUT",
+            b"/harbor/projects/library?limit=-1&version=0",
+            none
+        )
+    );
+    let escaped = put_project(alloc, Given::Value(-1), Given::Invalid);
+    assert!(rt;
+        gives(
+            alloc,
+            b"PUT",
+            b"/harbor/projects/library?limit=%2D1&version",
+            escaped
+        )
+    );
+    let most = put_project(alloc, Given::Value(i64::MAX), Given::Value(u64::MAX));
+    let target = b"/harbor/projects/library?limit=9223372036854775807&version=18446744073709551615";
+    assert!(rt; gives(alloc, b"PUT", target, most));
+}
+
+fn collect(untagged: bool) -> Result<Route, NameFault> {
+    Ok(Route::QueueJob {
+        kind: Given::Value(WantedJob::Collect { untagged }),
+    })
+}
+
+fn retain(project: Given<ProjectName>) -> Result<Route, NameFault> {
+    Ok(Route::QueueJob {
+        kind: Given::Value(WantedJob::Retain { project }),
+    })
+}
+
+fn retain_library(alloc: Global) -> Result<Route, NameFault> {
+    retain(Given::Value(library(alloc)?))
+}
+
+#[test]
+fn jobs(rt: HostRuntime) {
     let alloc = rt.alloc();
     let rows: [(&[u8], bool); 5] = [
         (b"/harbor/jobs?kind=collect&untagged=true", true),
@@ -387,51 +423,41 @@ fn jobs(rt: HostRuntime) -> Result<(), Fail> {
         ),
     ];
     for (target, untagged) in rows {
-        let kind = Given::Value(WantedJob::Collect { untagged });
-        assert_eq!(rt;
-            routed(alloc, b"POST", target)?,
-            Route::QueueJob { kind },
-            "{target:?}"
-        );
+        assert!(rt; gives(alloc, b"POST", target, collect(untagged)));
     }
-    let kind = Given::Value(WantedJob::Retain {
-        project: Given::Value(library(alloc)?),
-    });
-    assert_eq!(rt;
-        routed(alloc, b"POST", b"/harbor/jobs?kind=retain&project=library")?,
-        Route::QueueJob { kind }
+    let retained = b"/harbor/jobs?kind=retain&project=library";
+    assert!(rt; gives(alloc, b"POST", retained, retain_library(alloc)));
+    assert!(rt;
+        gives(
+            alloc,
+            b"POST",
+            b"/harbor/jobs?kind=retain",
+            retain(Given::Absent)
+        )
     );
-    let kind = Given::Value(WantedJob::Retain {
-        project: Given::Absent,
-    });
-    assert_eq!(rt;
-        routed(alloc, b"POST", b"/harbor/jobs?kind=retain")?,
-        Route::QueueJob { kind }
+    let invalid = b"/harbor/jobs?kind=retain&project=a/b";
+    assert!(rt; gives(alloc, b"POST", invalid, retain(Given::Invalid)));
+    assert!(rt;
+        gives(
+            alloc,
+            b"POST",
+            b"/harbor/jobs",
+            Ok(Route::QueueJob {
+                kind: Given::Absent
+            })
+        )
     );
-    let kind = Given::Value(WantedJob::Retain {
-        project: Given::Invalid,
-    });
-    assert_eq!(rt;
-        routed(alloc, b"POST", b"/harbor/jobs?kind=retain&project=a/b")?,
-        Route::QueueJob { kind }
+    let other = b"/harbor/jobs?kind=Collect";
+    assert!(rt;
+        gives(
+            alloc,
+            b"POST",
+            other,
+            Ok(Route::QueueJob {
+                kind: Given::Invalid
+            })
+        )
     );
-    assert_eq!(rt;
-        routed(alloc, b"POST", b"/harbor/jobs")?,
-        Route::QueueJob {
-            kind: Given::Absent
-        }
-    );
-    assert_eq!(rt;
-        routed(alloc, b"POST", b"/harbor/jobs?kind=Collect")?,
-        Route::QueueJob {
-            kind: Given::Invalid
-        }
-    );
-    assert_eq!(rt;
-        routed(alloc, b"GET", b"/harbor/jobs/7")?,
-        Route::ShowJob { job: Some(7) }
-    );
-    Ok(())
 }
 
 // Paths that name nothing, whatever the method.
@@ -471,11 +497,7 @@ fn unknown_paths(rt: HostRuntime) {
         b"/harbor/projects/\xff",
     ];
     for target in rows {
-        assert_eq!(rt;
-            routed(alloc, b"BREW", target),
-            Err(RouteFault::Unknown),
-            "{target:?}"
-        );
+        assert!(rt; refuses(alloc, b"BREW", target, RouteFault::Unknown));
     }
 }
 
@@ -502,11 +524,7 @@ fn unknown_methods(rt: HostRuntime) {
         (b"patch", b"/v2/library/a/blobs/uploads/7"),
     ];
     for (method, target) in rows {
-        assert_eq!(rt;
-            routed(alloc, method, target),
-            Err(RouteFault::MethodUnknown),
-            "{target:?}"
-        );
+        assert!(rt; refuses(alloc, method, target, RouteFault::MethodUnknown));
     }
 }
 
@@ -534,11 +552,7 @@ fn invalid_names(rt: HostRuntime) {
         (b"PUT", b"/harbor/projects/a..b/rules"),
     ];
     for (method, target) in rows {
-        assert_eq!(rt;
-            routed(alloc, method, target),
-            Err(RouteFault::NameInvalid),
-            "{target:?}"
-        );
+        assert!(rt; refuses(alloc, method, target, RouteFault::NameInvalid));
     }
 }
 
@@ -552,11 +566,7 @@ fn invalid_tags_and_digests(rt: HostRuntime) {
         b"/v2/library/a/manifests/ZZZZZZZZZZZZZZZZZZZZZZZZZZZZZZZZZZZZZZZZZZZZZZZZZZZZZZZZZZZZZZZZZZZZZZZZZZZZZZZZZZZZZZZZZZZZZZZZZZZZZZZZZZZZZZZZZZZZZZZZZZZZZZZZZ",
     ];
     for target in tags {
-        assert_eq!(rt;
-            routed(alloc, b"GET", target),
-            Err(RouteFault::TagInvalid),
-            "{target:?}"
-        );
+        assert!(rt; refuses(alloc, b"GET", target, RouteFault::TagInvalid));
     }
     let digests: [(&[u8], &[u8]); 13] = [
         (b"GET", b"/v2/library/a/blobs/"),
@@ -595,11 +605,7 @@ fn invalid_tags_and_digests(rt: HostRuntime) {
         ),
     ];
     for (method, target) in digests {
-        assert_eq!(rt;
-            routed(alloc, method, target),
-            Err(RouteFault::DigestInvalid),
-            "{target:?}"
-        );
+        assert!(rt; refuses(alloc, method, target, RouteFault::DigestInvalid));
     }
 }
 
@@ -620,95 +626,69 @@ fn repeated(
     Ok(text)
 }
 
-#[test]
-fn longest_names(rt: HostRuntime) -> Result<(), Fail> {
-    let alloc = rt.alloc();
-    let name = Name::read(alloc, &repeated(alloc, b"a/", b"b", 253, b"")?)?;
-    let target = repeated(alloc, b"/v2/a/", b"b", 253, b"/tags/list?n=1")?;
-    let last = None;
-    assert_eq!(rt;
-        routed(alloc, b"GET", &target)?,
-        Route::ListTags {
-            name,
-            last,
-            most: 1
-        }
-    );
-    let target = repeated(alloc, b"/v2/a/", b"b", 254, b"/tags/list")?;
-    assert_eq!(rt;
-        routed(alloc, b"GET", &target),
-        Err(RouteFault::NameInvalid)
-    );
-    let name = ProjectName::read(alloc, &repeated(alloc, b"", b"b", 255, b"")?)?;
-    let target = repeated(alloc, b"/harbor/projects/", b"b", 255, b"")?;
-    assert_eq!(rt;
-        routed(alloc, b"GET", &target)?,
-        Route::ShowProject { name }
-    );
-    let target = repeated(alloc, b"/harbor/projects/", b"b", 256, b"/rules")?;
-    assert_eq!(rt;
-        routed(alloc, b"PUT", &target),
-        Err(RouteFault::NameInvalid)
-    );
-    Ok(())
-}
-
-#[test]
-fn longest_targets(rt: HostRuntime) -> Result<(), Fail> {
-    let alloc = rt.alloc();
-    let target = repeated(alloc, b"/v2/", b"a/", 8_000, b"tags/list")?;
-    assert_eq!(rt;
-        routed(alloc, b"GET", &target),
-        Err(RouteFault::NameInvalid)
-    );
-    let target = repeated(alloc, b"/v2/", b"/", 60_000, b"")?;
-    assert_eq!(rt; routed(alloc, b"GET", &target), Err(RouteFault::Unknown));
-    let target = repeated(alloc, b"/harbor/projects/", b"a/", 8_000, b"rules")?;
-    assert_eq!(rt; routed(alloc, b"PUT", &target), Err(RouteFault::Unknown));
-    let name = repository(alloc)?;
-    let last = None;
-    let target = repeated(alloc, b"/v2/library/a/tags/list?", b"&n", 30_000, b"&n=5")?;
-    assert_eq!(rt;
-        routed(alloc, b"GET", &target)?,
-        Route::ListTags {
-            name,
-            last,
-            most: 1_000
-        }
-    );
-    let name = repository(alloc)?;
-    let last = None;
-    let target = repeated(
-        alloc,
-        b"/v2/library/a/tags/list?",
-        b"&m=%31",
-        8_000,
-        b"&n=%35",
-    )?;
-    assert_eq!(rt;
-        routed(alloc, b"GET", &target)?,
-        Route::ListTags {
-            name,
-            last,
-            most: 5
-        }
-    );
-    Ok(())
-}
-
-// One router reads any number of requests.
-#[test]
-fn one_router(rt: HostRuntime) -> Result<(), Fail> {
-    let alloc = rt.alloc();
-    let router = Router::new(alloc)?;
-    for _ in 0..3 {
-        assert_eq!(rt; router.route(alloc, b"GET", b"/v2/")?, Route::Base);
-        assert_eq!(rt;
-            router.route(alloc, b"GET", b"/harbor/jobs/1")?,
-            Route::ShowJob { job: Some(1) }
-        );
+// What a GET of such a target is refused for.
+fn refusal(alloc: Global, target: Result<Vec<u8>, AllocError>) -> Option<RouteFault> {
+    match target {
+        Ok(target) => match routed(alloc, b"GET", &target) {
+            Ok(_) => None,
+            Err(fault) => Some(fault),
+        },
+        Err(_) => Some(RouteFault::Memory),
     }
-    Ok(())
+}
+
+#[test]
+fn longest_names(rt: HostRuntime) {
+    let alloc = rt.alloc();
+    let name = repeated(alloc, b"/v2/a/", b"b", 253, b"/tags/list");
+    assert!(rt; refusal(alloc, name) == None);
+    let name = repeated(alloc, b"/v2/a/", b"b", 254, b"/tags/list");
+    assert!(rt; refusal(alloc, name) == Some(RouteFault::NameInvalid));
+    let project = repeated(alloc, b"/harbor/projects/", b"b", 255, b"");
+    assert!(rt; refusal(alloc, project) == None);
+    let project = repeated(alloc, b"/harbor/projects/", b"b", 256, b"");
+    assert!(rt; refusal(alloc, project) == Some(RouteFault::NameInvalid));
+}
+
+#[test]
+fn longest_targets(rt: HostRuntime) {
+    let alloc = rt.alloc();
+    let parts = repeated(alloc, b"/v2/", b"a/", 8_000, b"tags/list");
+    assert!(rt; refusal(alloc, parts) == Some(RouteFault::NameInvalid));
+    let slashes = repeated(alloc, b"/v2/", b"/", 60_000, b"");
+    assert!(rt; refusal(alloc, slashes) == Some(RouteFault::Unknown));
+    let controls = repeated(alloc, b"/harbor/projects/", b"a/", 8_000, b"rules");
+    assert!(rt; refusal(alloc, controls) == Some(RouteFault::Unknown));
+    let pieces = repeated(alloc, b"/v2/library/a/tags/list?", b"&n", 30_000, b"&n=5");
+    assert!(rt; refusal(alloc, pieces) == None);
+    let escapes = repeated(alloc, b"/v2/library/a/tags/list?n=", b"%31", 20_000, b"");
+    assert!(rt; refusal(alloc, escapes) == None);
+}
+
+fn is_copied(alloc: Global, made: Result<Route, RouteFault>) -> bool {
+    match made {
+        Ok(route) => match route.copy(alloc) {
+            Ok(copy) => copy == route,
+            Err(_) => false,
+        },
+        Err(_) => false,
+    }
+}
+
+#[test]
+fn copies_are_equal(rt: HostRuntime) {
+    let alloc = rt.alloc();
+    let rows: [(&[u8], &[u8]); 6] = [
+        (b"GET", b"/v2/"),
+        (b"PATCH", b"/v2/library/a/blobs/uploads/7"),
+        (b"GET", b"/v2/library/a/manifests/latest"),
+        (b"GET", b"/v2/library/a/tags/list?last=v1"),
+        (b"PUT", b"/harbor/projects/library?limit=7"),
+        (b"POST", b"/harbor/jobs?kind=retain&project=library"),
+    ];
+    for (method, target) in rows {
+        assert!(rt; is_copied(alloc, routed(alloc, method, target)));
+    }
 }
 
 #[test]
@@ -730,8 +710,7 @@ fn faults_as_text(rt: HostRuntime) -> Result<(), Fail> {
         (RouteFault::Memory, "out of memory"),
     ];
     for (fault, text) in rows {
-        assert_eq!(rt; format!(in alloc; "{fault}")?.as_str(), text);
+        assert!(rt; format!(in alloc; "{fault}")?.as_str() == text);
     }
-    assert_eq!(rt; MOST_TAGS, 1_000);
     Ok(())
 }

@@ -3,7 +3,7 @@ use Rattle.hb_routes.specs.Resources.{parts, by_ending, is_empty}
 use Rattle.hb_routes.specs.Resources.Resource.{Base}
 use Rattle.hb_routes.proofs.Endings.{one-named}
 use Rattle.hb_routes.proofs.Parts.{parts-one, parts-append}
-use Rattle.hb_routes.proofs.Tests.{empty-length}
+use Rattle.hb_routes.proofs.Comparisons.{empty-length}
 use Rattle.hb_routes.proofs.registry_paths.registry_resource.Goals as goal
 
 pub returns-in_default : goal.returns-in_default

@@ -2,7 +2,7 @@ use Rattle.std.proofs.Common.{◌≡◌, true, false, Bool, ◌&&◌, refl, sym,
 use Rattle.hb_routes.specs.Cuts.{is_same}
 use Rattle.hb_routes.specs.Resources.{by_ending}
 use Rattle.hb_routes.proofs.Endings.{tags-named, blob-named, manifest-named, none-named, same_text}
-use Rattle.hb_routes.proofs.Tests.{same-said}
+use Rattle.hb_routes.proofs.Comparisons.{same-said}
 use Rattle.hb_routes.proofs.registry_paths.resource_at.Goals as goal
 use Rattle.hb_routes.proofs.registry_paths.resource_at.Goals.{else-eq-4-via-then-eq-4+else-eq-5, else-eq-4-via-else-eq-4}
 

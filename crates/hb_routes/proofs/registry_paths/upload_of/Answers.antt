@@ -1,6 +1,6 @@
 use Rattle.std.proofs.Common.{true, false, sym, ◌∙◌, codes}
 use Rattle.hb_routes.proofs.Endings.{uploads-named, upload-named, no-upload-named}
-use Rattle.hb_routes.proofs.Tests.{other-said, empty-length}
+use Rattle.hb_routes.proofs.Comparisons.{other-said, empty-length}
 use Rattle.hb_routes.proofs.registry_paths.upload_of.Goals as goal
 
 pub returns-then-ne : goal.returns-then-ne

@@ -4,14 +4,14 @@ use Rattle.hb_routes.specs.Resources.Resource.{Base as NamedBase, Tags as NamedT
 use Rattle.hb_routes.specs.declared.resources.Resource.{Resource}
 use Rattle.hb_routes.specs.declared.resources.Resource.TheVariants.{Base, Tags, Uploads, Upload, Blob, Manifest, Project, Rules, Jobs, Job}
 
-abbrev pub seen : Resource → Named
-seen Base = NamedBase
-seen (Tags name) = NamedTags name.now
-seen (Uploads name) = NamedUploads name.now
-seen (Upload name id) = NamedUpload name.now id.now
-seen (Blob name digest) = NamedBlob name.now digest.now
-seen (Manifest name reference) = NamedManifest name.now reference.now
-seen (Project name) = NamedProject name.now
-seen (Rules name) = NamedRules name.now
-seen Jobs = NamedJobs
-seen (Job id) = NamedJob id.now
+abbrev pub meaning_of : Resource → Named
+meaning_of Base = NamedBase
+meaning_of (Tags name) = NamedTags name.now
+meaning_of (Uploads name) = NamedUploads name.now
+meaning_of (Upload name id) = NamedUpload name.now id.now
+meaning_of (Blob name digest) = NamedBlob name.now digest.now
+meaning_of (Manifest name reference) = NamedManifest name.now reference.now
+meaning_of (Project name) = NamedProject name.now
+meaning_of (Rules name) = NamedRules name.now
+meaning_of Jobs = NamedJobs
+meaning_of (Job id) = NamedJob id.now
