@@ -15,15 +15,24 @@ fn routed(alloc: Global, method: &[u8], target: &[u8]) -> Result<Route, RouteFau
     }
 }
 
-// Whether the request has this route.
-fn gives(alloc: Global, method: &[u8], target: &[u8], want: Result<Route, NameFault>) -> bool {
-    match routed(alloc, method, target) {
-        Ok(route) => match want {
-            Ok(want) => route == want,
-            Err(_) => false,
-        },
+fn is_same(route: &Route, want: &Result<Route, NameFault>) -> bool {
+    match want {
+        Ok(want) => route == want,
         Err(_) => false,
     }
+}
+
+fn is_given(found: &Result<Route, RouteFault>, want: &Result<Route, NameFault>) -> bool {
+    match found {
+        Ok(route) => is_same(route, want),
+        Err(_) => false,
+    }
+}
+
+// Whether the request has this route.
+fn gives(alloc: Global, method: &[u8], target: &[u8], want: Result<Route, NameFault>) -> bool {
+    let found = routed(alloc, method, target);
+    is_given(&found, &want)
 }
 
 // Whether the request is refused for this cause.
