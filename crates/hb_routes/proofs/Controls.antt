@@ -1,10 +1,10 @@
 -- The rows of control paths answer what the definition says: a front, one part, an end.
-use Rattle.std.proofs.Common.{◌≡◌, ◌≢◌, ◌⊎◌, inl, inr, ℕ, ◌+◌, ◌-◌, ◌<◌, Bool, true, false, cond, not, ◌&&◌, ◌||◌, List, [], ◌∷◌, ◌++◌, length, refl, sym, ap, subst, ◌∙◌, eqb, nat_eq, Option, Some, None, option_map, option_and_then, arith, codes, append_assoc, append-nil, lit<}
+use Rattle.std.proofs.Common.{◌≡◌, ◌≢◌, ◌⊎◌, inl, inr, ℕ, ◌-◌, ◌<◌, Bool, true, false, cond, List, [], ◌∷◌, ◌++◌, length, refl, sym, ap, subst, ◌∙◌, eqb, nat_eq, Option, Some, None, option_map, option_and_then, arith, codes, lit<}
 use Rattle.std.proofs.lemmas.Bool.{false≢true}
 use Rattle.std.proofs.lemmas.Bool.Decides.{nat_tests}
 use Rattle.matchit.specs.Rows.{RowsOf}
 use Rattle.matchit.specs.Router.{RouteOf}
-use Rattle.matchit.specs.Seek.{first, seek, step, own, or_else, param_step}
+use Rattle.matchit.specs.Seek.{first, seek, or_else, param_step}
 use Rattle.hb_routes.specs.ControlRows.{control_rows}
 use Rattle.hb_routes.specs.Cuts.{is_same, behind_front, before_end}
 use Rattle.hb_routes.specs.Resources.{Resource, is_part, part_between, either, control_named}

@@ -1,12 +1,12 @@
 -- Which ending the parts of a path have, by the last two or three of them.
-use Rattle.std.proofs.Common.{◌≡◌, ◌≢◌, ◌⊎◌, inl, inr, option_map, ℕ, ◌+◌, ◌-◌, ◌<◌, Bool, true, false, cond, ◌&&◌, List, [], ◌∷◌, ◌++◌, length, take, drop, get_or, refl, sym, ap, subst, ◌∙◌, append_assoc, Option, Some, None, codes, length-append, arith}
+use Rattle.std.proofs.Common.{◌≡◌, ◌≢◌, ◌⊎◌, inl, inr, ℕ, ◌-◌, Bool, true, false, ◌&&◌, List, [], ◌∷◌, ◌++◌, length, take, drop, get_or, refl, sym, ap, ◌∙◌, append_assoc, Some, None, codes, length-append, arith}
 use Rattle.std.specs.List.{join_with_byte}
 use Rattle.std.specs.Cmp.Lexicographic.{pointwise}
 use Rattle.std.proofs.Math.Seq.{drop-append_seam, take-append_seam, get_or-append_right}
 use Rattle.std.proofs.lemmas.Slice.Eq.{bytes_eq-Decides}
 use Rattle.hb_routes.specs.Cuts.{is_same}
 use Rattle.hb_routes.specs.LastParts.{AreOf, IsLastPart}
-use Rattle.hb_routes.specs.Resources.{Resource, Shape, parts, Ending, fits, ends_in, named_by, endings, by_ending, is_empty}
+use Rattle.hb_routes.specs.Resources.{Shape, parts, fits, ends_in, by_ending, is_empty}
 use Rattle.hb_routes.specs.Resources.Resource.{Tags, Uploads, Upload, Blob, Manifest}
 use Rattle.hb_routes.specs.Resources.Shape.{Word, Nothing, Any}
 use Rattle.hb_routes.proofs.Parts.{join-parts}

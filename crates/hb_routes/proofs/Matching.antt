@@ -1,15 +1,10 @@
 -- What `matchit`'s walk over rows answers: rows with a front in common, rows with different first bytes,
 -- and a parameter at the front.
-use Rattle.std.proofs.Common.{◌≡◌, ◌≢◌, ◌⊎◌, inl, inr, ℕ, zero, suc, ◌+◌, ◌-◌, ◌<◌, ◌≤◌, Bool, true, false, cond, ◌&&◌, ◌||◌, List, [], ◌∷◌, ◌++◌, length, take, drop, refl, sym, ap, subst, ◌∙◌, eqb, ltb, nat_eq, Option, Some, None, option_and_then, arith, codes, length-append}
-use Rattle.std.specs.List.{list_any, ends_with}
-use Rattle.std.specs.Cmp.Lexicographic.{pointwise}
-use Rattle.std.proofs.Math.Seq.{drop-append_seam}
+use Rattle.std.proofs.Common.{◌≡◌, ◌≢◌, ℕ, zero, suc, ◌-◌, ◌<◌, Bool, true, false, cond, ◌&&◌, List, [], ◌∷◌, ◌++◌, length, take, drop, refl, sym, ap, ◌∙◌, eqb, nat_eq, Option, Some, None, option_and_then, arith}
 use Rattle.std.proofs.lemmas.Bool.Decides.{nat_tests}
 use Rattle.matchit.specs.Rows.{RowsOf}
-use Rattle.matchit.specs.Seek.{first, seek, step, own, or_else, param_step, segment, has_slash, cuts, longest_suffix, with_suffix, same_text}
+use Rattle.matchit.specs.Seek.{first, seek, step, own, or_else, param_step, has_slash}
 use Rattle.hb_routes.specs.Cuts.{is_same, behind_front}
-use Rattle.hb_routes.specs.Resources.{is_empty}
-use Rattle.hb_routes.proofs.Parts.{neither}
 
 -- each element is a byte
 abbrev pub AreBytes : List ℕ → Type 0

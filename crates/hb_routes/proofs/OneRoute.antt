@@ -1,9 +1,8 @@
 -- A request is routed in one way, and never to want of memory.
-use Rattle.std.proofs.Common.{◌≡◌, ◌≢◌, ◌⊎◌, inl, inr, ℕ, ◌<◌, ◌≤◌, ◌^◌, Bool, true, false, ℤ, pos, negsuc, List, [], ◌∷◌, refl, sym, ap, subst, ◌∙◌, Option, Some, None, Result, Ok, Err, IsTrue, codes, arith}
-use Rattle.std.specs.List.{list_all}
+use Rattle.std.proofs.Common.{◌≡◌, ◌≢◌, inl, inr, ℕ, Bool, pos, List, refl, sym, ap, subst, ◌∙◌, Option, Some, None, Result, Ok, Err, codes, arith}
 use Rattle.std.proofs.lemmas.Bool.{false≢true}
 use Rattle.hb_text.proofs.DigestTexts.{decoded}
-use Rattle.hb_text.specs.Numbers.{IsNumber, is_digit}
+use Rattle.hb_text.specs.Numbers.{IsNumber}
 use Rattle.hb_text.specs.declared.digests.Digest.{Digest}
 use Rattle.hb_text.specs.declared.references.Reference.{Reference}
 use Rattle.hb_text.specs.declared.references.Reference.TheVariants.{Tag, Digest as ByDigest}
@@ -13,11 +12,11 @@ use Rattle.hb_routes.specs.Queries.{path_of, query_of, value_of, value_or_empty}
 use Rattle.hb_routes.specs.Resources.{Resource, resource_of}
 use Rattle.hb_routes.specs.Resources.Resource.{Base, Tags, Uploads, Upload, Blob, Manifest, Project, Rules, Jobs, Job}
 use Rattle.hb_routes.specs.Routes.{WithName, WithProject, WithDigest, WithTag, WithReference, WithId, IsBegun, IsWanted, IsServed, IsServedAt, IsRouted}
-use Rattle.hb_routes.specs.Values.{StandsForName, StandsForProject, StandsForTag, StandsForDigest, StandsForLimit, IsOutside, IsValueOf, IsTaken, IsGiven, IsMost, has_colon}
+use Rattle.hb_routes.specs.Values.{StandsForName, StandsForProject, StandsForTag, StandsForDigest, StandsForLimit, IsOutside, IsValueOf, IsTaken, IsGiven, IsMost}
 use Rattle.hb_routes.specs.declared.faults.RouteFault.{RouteFault}
 use Rattle.hb_routes.specs.declared.faults.RouteFault.TheVariants.{Unknown, MethodUnknown, NameInvalid, TagInvalid, DigestInvalid, Memory}
 use Rattle.hb_routes.specs.declared.methods.Method.{Method}
-use Rattle.hb_routes.specs.declared.methods.Method.TheVariants.{Get, Head, Post, Put, Patch, Delete, Other}
+use Rattle.hb_routes.specs.declared.methods.Method.TheVariants.{Get, Head, Post, Put, Patch, Delete}
 use Rattle.hb_routes.specs.declared.routes.Route.{Route}
 use Rattle.hb_routes.specs.declared.routes.Route.TheVariants.{Base as BaseRoute, GetBlob, HeadBlob, BeginUpload, PushBlob, MountBlob, GrowUpload, FinishUpload, ShowUpload, PutManifest, GetManifest, HeadManifest, DeleteManifest, ListTags, PutProject, ShowProject, PutRules, QueueJob, ShowJob}
 use Rattle.hb_routes.specs.declared.routes.Given.{Given}

@@ -1,14 +1,14 @@
 -- What `matchit`'s walk answers where a pattern goes on with a parameter: the parameter takes one part.
-use Rattle.std.proofs.Common.{◌≡◌, ◌≢◌, inl, inr, ℕ, zero, suc, ◌+◌, ◌-◌, ◌<◌, ◌≤◌, Bool, true, false, cond, ◌&&◌, ◌||◌, List, [], ◌∷◌, ◌++◌, length, take, drop, refl, sym, ap, ◌∙◌, eqb, ltb, nat_eq, Option, Some, None, option_and_then, arith, codes, length-append, lit<}
-use Rattle.std.specs.List.{list_any, ends_with}
+use Rattle.std.proofs.Common.{◌≡◌, ℕ, zero, suc, ◌-◌, ◌<◌, Bool, true, false, ◌&&◌, List, [], ◌∷◌, ◌++◌, length, drop, refl, ap, ◌∙◌, eqb, ltb, nat_eq, Some, None, option_and_then, arith, codes, length-append, lit<}
+use Rattle.std.specs.List.{list_any}
 use Rattle.std.specs.Cmp.Lexicographic.{pointwise}
 use Rattle.std.proofs.Math.Seq.{drop-append_seam}
 use Rattle.std.proofs.lemmas.Bool.Decides.{nat_tests}
 use Rattle.matchit.specs.Rows.{RowsOf}
-use Rattle.matchit.specs.Seek.{first, seek, step, own, or_else, param_step, segment, has_slash, cuts, longest_suffix, with_suffix}
+use Rattle.matchit.specs.Seek.{first, seek, step, own, param_step, segment, has_slash, cuts, longest_suffix, with_suffix}
 use Rattle.hb_routes.specs.Cuts.{behind_front}
 use Rattle.hb_routes.proofs.Parts.{neither}
-use Rattle.hb_routes.proofs.Matching.{AreBytes, seek-nil, seek-skip, under_front, first-under_front, param_step-nil, or_else-none}
+use Rattle.hb_routes.proofs.Matching.{seek-nil, seek-skip, first-under_front, param_step-nil, or_else-none}
 
 -- the text has a slash
 abbrev pub slashed : List ℕ → Bool

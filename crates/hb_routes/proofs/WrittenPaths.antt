@@ -1,8 +1,8 @@
 -- Paths that are written for a resource name it.
-use Rattle.std.proofs.Common.{◌≡◌, ℕ, ◌<◌, Bool, true, false, cond, List, [], ◌∷◌, ◌++◌, length, refl, sym, ap, ◌∙◌, nat_eq, inl, Option, Some, None, codes, append_assoc, arith}
+use Rattle.std.proofs.Common.{◌≡◌, ℕ, ◌<◌, false, cond, List, [], ◌∷◌, ◌++◌, length, refl, sym, ap, ◌∙◌, nat_eq, inl, Some, codes, append_assoc, arith}
 use Rattle.std.specs.List.{list_any}
 use Rattle.hb_routes.specs.LastParts.{IsLastPart}
-use Rattle.hb_routes.specs.Resources.{Resource, parts, is_empty, by_ending, behind_v2, resource_of}
+use Rattle.hb_routes.specs.Resources.{parts, is_empty, by_ending, behind_v2, resource_of}
 use Rattle.hb_routes.specs.Resources.Resource.{Base, Tags, Uploads, Upload, Blob, Manifest}
 use Rattle.hb_routes.proofs.Endings.{tags-named, blob-named, manifest-named, uploads-named, upload-named}
 use Rattle.hb_routes.proofs.Fronts.{behind-front}

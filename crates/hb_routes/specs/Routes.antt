@@ -1,5 +1,5 @@
 -- The routes of requests: what a method asks of what a path names, and what a request is refused for.
-use Rattle.std.specs.Prelude.{◌≡◌, ◌≢◌, ◌⊎◌, ℕ, true, false, List, Option, Some, None, Result, Ok, Err, codes}
+use Rattle.std.specs.Prelude.{◌≡◌, ◌≢◌, ◌⊎◌, ℕ, true, false, List, Option, Some, None, Ok, Err, codes}
 use Rattle.hb_text.specs.Numbers.{IsNumber}
 use Rattle.hb_text.specs.declared.digests.Digest.{Digest}
 use Rattle.hb_text.specs.declared.references.Reference.{Reference}
@@ -10,7 +10,7 @@ use Rattle.hb_routes.specs.Methods.{method_of}
 use Rattle.hb_routes.specs.Queries.{path_of, query_of, value_of, value_or_empty}
 use Rattle.hb_routes.specs.Resources.{Resource, resource_of}
 use Rattle.hb_routes.specs.Resources.Resource.{Base, Tags, Uploads, Upload, Blob, Manifest, Project, Rules, Jobs, Job}
-use Rattle.hb_routes.specs.Values.{StandsForName, StandsForProject, StandsForTag, StandsForDigest, StandsForLimit, IsOutside, IsValueOf, IsTaken, IsGiven, IsMost, has_colon}
+use Rattle.hb_routes.specs.Values.{StandsForName, StandsForProject, StandsForTag, StandsForDigest, StandsForLimit, IsValueOf, IsTaken, IsGiven, IsMost, has_colon}
 use Rattle.hb_routes.specs.declared.faults.RouteFault.TheVariants.{Unknown, MethodUnknown, NameInvalid, TagInvalid, DigestInvalid}
 use Rattle.hb_routes.specs.declared.methods.Method.{Method}
 use Rattle.hb_routes.specs.declared.methods.Method.TheVariants.{Get, Head, Post, Put, Patch, Delete}

@@ -1,14 +1,12 @@
 -- Which values texts stand for. Each of these relations says of a text and a value that the text stands
 -- for the value; a text stands for one value at most.
-use Rattle.std.specs.Prelude.{◌≡◌, ◌≢◌, ◌<◌, ◌≤◌, ◌^◌, ◌⊎◌, ℕ, Bool, true, false, ℤ, pos, negsuc, List, Option, Some, None, IsTrue, nat_eq, codes}
+use Rattle.std.specs.Prelude.{◌≡◌, ◌<◌, ◌≤◌, ◌^◌, ◌⊎◌, ℕ, Bool, ℤ, pos, negsuc, List, Option, Some, None, nat_eq, codes}
 use Rattle.std.specs.List.{list_any}
 use Rattle.hb_text.specs.Names.{IsName, IsProjectName}
 use Rattle.hb_text.specs.Tags.{IsTag}
 use Rattle.hb_text.specs.Numbers.{IsNumber}
 use Rattle.hb_text.specs.Digests.{IsDigest, digest_text}
 use Rattle.hb_text.specs.declared.digests.Digest.{Digest}
-use Rattle.hb_text.specs.declared.references.Reference.{Reference}
-use Rattle.hb_text.specs.declared.references.Reference.TheVariants.{Tag, Digest as ByDigest}
 use Rattle.hb_routes.specs.declared.routes.Given.{Given}
 use Rattle.hb_routes.specs.declared.routes.Given.TheVariants.{Absent, Invalid, Value}
 

@@ -1,4 +1,4 @@
-use Rattle.std.proofs.Common.{◌≡◌, ℕ, cond, refl, sym, ap, ◌∙◌, Some, None, List, codes, arith}
+use Rattle.std.proofs.Common.{cond, refl, sym, ap, ◌∙◌, Some, None, codes, arith}
 use Rattle.std.specs.Str.{is_utf8}
 use Rattle.matchit.specs.Params.{walk}
 use Rattle.matchit.specs.Router.{RouteOf}
