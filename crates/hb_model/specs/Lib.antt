@@ -3,8 +3,10 @@ pub mod ArtifactEffects
 pub mod BlobEffects
 pub mod Changes
 pub mod CollectEffects
+pub mod CollectExamples
 pub mod ContentChanges
 pub mod Effects
+pub mod ExampleLogs
 pub mod Grace
 pub mod History
 pub mod JobChanges

@@ -2,4 +2,5 @@
 //! an audit, and what every event keeps.
 #![tactic(auto)]
 
+pub mod examples;
 pub mod laws;
