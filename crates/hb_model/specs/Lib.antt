@@ -18,6 +18,7 @@ pub mod Jobs
 pub mod LegalArtifacts
 pub mod LegalBlobs
 pub mod LegalCollect
+pub mod LegalExamples
 pub mod LegalProjects
 pub mod LegalRetain
 pub mod MountExamples

@@ -20,6 +20,9 @@ ghost use Rattle.hb_model.specs.Grace.{idle_pair, idle, is_owned, eligible, elig
 ghost use Rattle.hb_model.specs.LegalBlobs.{fits_limit};
 ghost use Rattle.hb_model.specs.LegalArtifacts.{is_immutable_in, may_set_tag, tags_mutable, has_parent, has_tag};
 ghost use Rattle.hb_model.specs.Snapshots.{snapshot_of, left_out, unretained, turn_of};
+ghost use Rattle.hb_records.specs.declared.entries.EntryKind.TheVariants.{ProjectMade, LimitSet};
+ghost use Rattle.hb_model.specs.History.{LegalKind, History};
+ghost use Rattle.hb_model.specs.LegalExamples.{MayFollow};
 ghost use Rattle.hb_model.specs.ExampleNames.{library, other, repo_a, repo_x, v1, all, braces, image, other_image, index, abc, letter};
 ghost use Rattle.hb_model.specs.ExampleColumns.{project_columns, blob_columns, upload_columns, job_columns, candidate_columns, snap_columns, pair_columns, artifact_columns, tag_columns};
 ghost use Rattle.hb_model.specs.ExampleLogs.{audit_of, after};
@@ -258,4 +261,23 @@ pub fn an_untagged_manifest_goes()
     ensures unused { usage (replay (audit_of tag_dropped)) library ≡ 0 }
     ensures marked { map blob_columns (rows_of (audit_of tag_dropped)).blobs ≡ (braces, status.Delete, 15, 1000000, 0) ∷ (image, status.Delete, 15, 1000000, 0) ∷ [] }
     ensures seen { seen (rows_of (audit_of tag_dropped)) ≡ replay (audit_of tag_dropped) }
+{}
+
+/// Each entry of the worked logs is legal after those before it.
+pub fn the_worked_logs_are_legal()
+    ensures mounted { History (audit_of unknown_mounted) }
+    ensures limit { History (audit_of limit_passed) }
+    ensures layer { History (audit_of (layer_listed_twice 400)) }
+    ensures tag { History (audit_of tag_immutable) }
+    ensures index { History (audit_of index_dropped_first) }
+    ensures collected { History (audit_of blob_out_of_window) }
+    ensures named { History (audit_of blob_named_in_window) }
+    ensures after_mark { History (audit_of blob_pushed_after_mark) }
+    ensures failed { History (audit_of removal_failed) }
+    ensures stopped { History (audit_of collection_stopped) }
+    ensures raced { History (audit_of push_raced) }
+    ensures retained { History (audit_of two_of_five_kept) }
+    ensures uploaded { History (audit_of upload_left) }
+    ensures adopted { History (audit_of content_adopted) }
+    ensures untagged { History (audit_of tag_dropped) }
 {}

@@ -1,0 +1,2 @@
+mod ExampleTurns
+mod ExampleVerdicts
