@@ -58,3 +58,10 @@ raced-done = all-done (after 12 push_raced) 7 abc (search rules) (search rules) 
 
 pub adopted-done : LegalGcDone (after 13 content_adopted) 9
 adopted-done = all-done (after 13 content_adopted) 9 abc (search rules) (search rules) (λ d h. h) refl
+
+none-one : ◌≡◌ {A = ℕ} 0 1 → ⊥
+none-one e = search rules
+
+-- a collection isn't done while the digest that it took has no verdict
+pub undecided : ¬ (LegalGcDone (after 13 blob_out_of_window) 9)
+undecided h = none-one (h.one_verdict abc (search rules))

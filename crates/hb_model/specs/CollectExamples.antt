@@ -41,12 +41,17 @@ blob_pushed_after_mark = abc_pushed ++ at 1007200 (abc_marked 5 (
     ∷ pushed 14 repo_a braces 2
     ++ image_put 17 repo_a image (braces ∷ abc ∷ []) v1))
 
--- the removal fails, so a push is refused up to the bar, and done from then on
+-- the removal fails, and its collection ends
+abbrev pub removal_sent : Log
+removal_sent = abc_pushed ++ at 1007200 (abc_marked 5 (Taking 5 abc ∷ GcSkipped 5 abc verdict.Failed ∷ GcDone 5 ∷ []))
+
+-- a push is refused up to the bar, and done from then on
 abbrev pub removal_failed : Log
-removal_failed = abc_pushed
-    ++ at 1007200 (abc_marked 5 (Taking 5 abc ∷ GcSkipped 5 abc verdict.Failed ∷ GcDone 5 ∷ []))
-    ++ at 1014399 (refused 12 repo_a)
-    ++ at 1014400 (pushed 14 repo_a abc 3)
+removal_failed = removal_sent ++ at 1014399 (refused 12 repo_a) ++ at 1014400 (pushed 14 repo_a abc 3)
+
+-- or the next collection comes before the bar: it can't mark the blob, and counts it as barred
+abbrev pub removal_awaited : Log
+removal_awaited = removal_sent ++ at 1014399 (JobQueued (Collect false) ∷ JobClaimed 12 ∷ GcMarked 12 [] (abc ∷ []) (Some abc) true ∷ GcDone 12 ∷ [])
 
 -- The core stops between the removal and its verdict. Another claim ends the job, a push is refused up to
 -- the bar, and the next collection marks the blob from then on.

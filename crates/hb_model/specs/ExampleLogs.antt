@@ -44,10 +44,17 @@ pushed upload name digest size = UploadBegun name ∷ UploadEnded 0 upload ∷ A
 abbrev pub refused : ℕ → List ℕ → List EntryKind
 refused upload name = UploadBegun name ∷ UploadEnded 0 upload ∷ []
 
--- a manifest of 400 bytes with these references is put under a tag
-abbrev pub image_put : ℕ → List ℕ → Digest → List Digest → List ℕ → List EntryKind
-image_put upload name digest refs tag = UploadBegun name ∷ UploadEnded 0 upload ∷ ArtifactPut name digest 400 image_type refs [] (Some tag) ∷ []
+-- a manifest of 400 bytes with these references, under a tag
+abbrev pub image_entry : List ℕ → Digest → List Digest → List ℕ → EntryKind
+image_entry name digest refs tag = ArtifactPut name digest 400 image_type refs [] (Some tag)
 
--- an index of 300 bytes with these children is put under a tag
+-- an index of 300 bytes with these children, under a tag
+abbrev pub index_entry : List ℕ → Digest → List Digest → List ℕ → EntryKind
+index_entry name digest children tag = ArtifactPut name digest 300 index_type [] children (Some tag)
+
+-- the same with the upload that served them
+abbrev pub image_put : ℕ → List ℕ → Digest → List Digest → List ℕ → List EntryKind
+image_put upload name digest refs tag = UploadBegun name ∷ UploadEnded 0 upload ∷ image_entry name digest refs tag ∷ []
+
 abbrev pub index_put : ℕ → List ℕ → Digest → List Digest → List ℕ → List EntryKind
-index_put upload name digest children tag = UploadBegun name ∷ UploadEnded 0 upload ∷ ArtifactPut name digest 300 index_type [] children (Some tag) ∷ []
+index_put upload name digest children tag = UploadBegun name ∷ UploadEnded 0 upload ∷ index_entry name digest children tag ∷ []

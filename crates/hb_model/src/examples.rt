@@ -20,19 +20,20 @@ ghost use Rattle.hb_model.specs.Grace.{idle_pair, idle, is_owned, eligible, elig
 ghost use Rattle.hb_model.specs.LegalBlobs.{fits_limit};
 ghost use Rattle.hb_model.specs.LegalArtifacts.{is_immutable_in, may_set_tag, tags_mutable, has_parent, has_tag};
 ghost use Rattle.hb_model.specs.Snapshots.{snapshot_of, left_out, unretained, turn_of};
-ghost use Rattle.hb_records.specs.declared.entries.EntryKind.TheVariants.{ProjectMade, LimitSet};
-ghost use Rattle.hb_model.specs.History.{LegalKind, History};
-ghost use Rattle.hb_model.specs.LegalExamples.{MayFollow};
+ghost use Rattle.hb_records.specs.declared.entries.EntryKind.TheVariants.{ProjectMade, LimitSet, RulesSet, UploadBegun, UploadGrown, UploadEnded, Associated, Touched, Unassociated, ArtifactDropped, TagDropped, Pulled, JobQueued, JobClaimed, GcMarked, Taking, Collected, GcSkipped, Adopted, GcDone, RetainBegun, RetainTurn, RetainDone};
+ghost use Rattle.hb_records.specs.declared.jobs.JobKind.TheVariants.{Collect, Retain};
+ghost use Rattle.hb_model.specs.History.{Legal, History};
+ghost use Rattle.hb_model.specs.LegalExamples.{MayFollow, MayNotFollow, fifteen_rules, sixteen_rules};
 ghost use Rattle.hb_model.specs.ExampleNames.{library, other, repo_a, repo_x, v1, all, braces, image, other_image, index, abc, letter};
 ghost use Rattle.hb_model.specs.ExampleColumns.{project_columns, blob_columns, upload_columns, job_columns, candidate_columns, snap_columns, pair_columns, artifact_columns, tag_columns};
-ghost use Rattle.hb_model.specs.ExampleLogs.{audit_of, after};
+ghost use Rattle.hb_model.specs.ExampleLogs.{audit_of, after, entry, image_entry, index_entry};
 ghost use Rattle.hb_model.specs.MountExamples.{blob_mounted, unknown_mounted};
 ghost use Rattle.hb_model.specs.QuotaExamples.{limit_reached, limit_passed, layer_listed_twice};
 ghost use Rattle.hb_model.specs.ImmutabilityExamples.{tag_immutable, index_dropped_first};
-ghost use Rattle.hb_model.specs.CollectExamples.{blob_out_of_window, blob_named_in_window, blob_pushed_after_mark, removal_failed, collection_stopped, push_raced};
+ghost use Rattle.hb_model.specs.CollectExamples.{blob_out_of_window, blob_named_in_window, blob_pushed_after_mark, removal_failed, removal_awaited, collection_stopped, push_raced};
 ghost use Rattle.hb_model.specs.RetainExamples.{keep_two, two_of_five_kept, tag_of, tag_item};
 ghost use Rattle.hb_model.specs.UploadExamples.{upload_left, content_adopted};
-ghost use Rattle.hb_model.specs.TagExamples.{tag_dropped};
+ghost use Rattle.hb_model.specs.TagExamples.{tag_dropped, tag_kept};
 
 /// A mounted blob counts in both projects. Before it is mounted the project hasn't got it, and from then on
 /// a manifest of the project can name it.
@@ -181,6 +182,15 @@ pub fn a_failed_removal_bars_a_push()
     ensures seen { seen (rows_of (audit_of removal_failed)) ≡ replay (audit_of removal_failed) }
 {}
 
+/// A collection that comes before the bar marks nothing, and counts the blob as barred.
+pub fn a_removal_that_may_still_come_bars_a_mark()
+    ensures may_not_go { eligible (after 13 removal_awaited) abc 1014399 ≡ false }
+    ensures but_for_the_bar { eligible_but_collecting (after 13 removal_awaited) abc 1014399 ≡ true }
+    ensures blob { map blob_columns (rows_of (audit_of removal_awaited)).blobs ≡ (abc, status.DeleteFailed, 10, 1000000, 1014400) ∷ [] }
+    ensures counts { map (λ row. row.barred) (rows_of (audit_of removal_awaited)).jobs ≡ 0 ∷ 1 ∷ [] }
+    ensures candidates { map candidate_columns (rows_of (audit_of removal_awaited)).candidates ≡ (5, abc, 3, 8, verdict.Failed) ∷ [] }
+{}
+
 /// A removal whose outcome nobody knows bars a push up to its bar. From then on the blob may be marked
 /// again: it keeps its bar and isn't present, and is removed.
 pub fn a_removal_of_unknown_outcome_is_barred()
@@ -274,10 +284,164 @@ pub fn the_worked_logs_are_legal()
     ensures named { History (audit_of blob_named_in_window) }
     ensures after_mark { History (audit_of blob_pushed_after_mark) }
     ensures failed { History (audit_of removal_failed) }
+    ensures awaited { History (audit_of removal_awaited) }
     ensures stopped { History (audit_of collection_stopped) }
     ensures raced { History (audit_of push_raced) }
     ensures retained { History (audit_of two_of_five_kept) }
     ensures uploaded { History (audit_of upload_left) }
     ensures adopted { History (audit_of content_adopted) }
     ensures untagged { History (audit_of tag_dropped) }
+    ensures tagged { History (audit_of tag_kept) }
+{}
+
+/// The first entry makes `library` without a limit. Entries are numbered, and moments never fall.
+pub fn audits_begin_with_the_library_and_are_numbered()
+    ensures first { Legal [] (entry 1 0 (ProjectMade library (negsuc 0))) }
+    ensures other_project { ¬ (Legal [] (entry 1 0 (ProjectMade other (negsuc 0)))) }
+    ensures with_limit { ¬ (Legal [] (entry 1 0 (ProjectMade library (pos 3)))) }
+    ensures other_kind { ¬ (Legal [] (entry 1 0 (JobQueued (Collect false)))) }
+    ensures misnumbered { ¬ (Legal (after 1 blob_mounted) (entry 3 0 (ProjectMade other (negsuc 0)))) }
+    ensures in_the_past { ¬ (Legal (after 4 blob_out_of_window) (entry 5 999999 (JobQueued (Collect false)))) }
+{}
+
+/// A project is made once. It is there before it gets a limit or rules, at most fifteen of each sort.
+pub fn which_entries_of_projects_are_legal()
+    ensures made { MayFollow 1 blob_mounted 0 (ProjectMade other (negsuc 0)) }
+    ensures made_again { MayNotFollow 2 blob_mounted 0 (ProjectMade other (pos 3)) }
+    ensures limit_set { MayFollow 10 limit_passed 0 (LimitSet library (pos 1)) }
+    ensures limit_of_unknown { MayNotFollow 10 limit_passed 0 (LimitSet other (pos 1)) }
+    ensures rules_set { MayFollow 1 two_of_five_kept 0 (RulesSet library keep_two) }
+    ensures rules_of_unknown { MayNotFollow 1 two_of_five_kept 0 (RulesSet other keep_two) }
+    ensures fifteen { MayFollow 1 two_of_five_kept 0 (RulesSet library fifteen_rules) }
+    ensures sixteen { MayNotFollow 1 two_of_five_kept 0 (RulesSet library sixteen_rules) }
+{}
+
+/// An upload begins in a project that is there. It doesn't shrink, and has at most 2^36 bytes. A client ends
+/// it at any time, and a collection once it is out of the window.
+pub fn which_entries_of_uploads_are_legal()
+    ensures begun { MayFollow 1 upload_left 1000000 (UploadBegun repo_a) }
+    ensures begun_in_unknown { MayNotFollow 1 upload_left 1000000 (UploadBegun repo_x) }
+    ensures grown { MayFollow 3 upload_left 1000000 (UploadGrown 2 3) }
+    ensures shrunk { MayNotFollow 4 upload_left 1000000 (UploadGrown 2 2) }
+    ensures full { MayFollow 4 upload_left 1000000 (UploadGrown 2 68719476736) }
+    ensures too_large { MayNotFollow 4 upload_left 1000000 (UploadGrown 2 68719476737) }
+    ensures grown_unknown { MayNotFollow 4 upload_left 1000000 (UploadGrown 3 3) }
+    ensures ended { MayFollow 4 upload_left 1000000 (UploadEnded 0 2) }
+    ensures ended_again { MayNotFollow 3 blob_out_of_window 1000000 (UploadEnded 0 2) }
+    ensures expired { MayFollow 7 upload_left 1007200 (UploadEnded 5 2) }
+    ensures young { MayNotFollow 7 upload_left 1007199 (UploadEnded 5 2) }
+    ensures without_job { MayNotFollow 4 upload_left 1007200 (UploadEnded 5 2) }
+{}
+
+/// Content comes to a project that is there, within its limit, with the size that it has where it is present,
+/// and not while a removal may still take effect. It is touched where the project has it. A collection takes
+/// it from the project out of the window where no manifest needs it, and adopts what has no row.
+pub fn which_entries_of_content_are_legal()
+    ensures associated { MayFollow 3 blob_out_of_window 1000000 (Associated library abc 3) }
+    ensures to_unknown { MayNotFollow 3 blob_out_of_window 1000000 (Associated other abc 3) }
+    ensures over_limit { MayNotFollow 6 limit_reached 0 (Associated library braces 2) }
+    ensures adds_nothing { MayFollow 9 limit_reached 0 (Associated library abc 3) }
+    ensures other_size { MayNotFollow 4 blob_out_of_window 1000000 (Associated library abc 4) }
+    ensures collecting { MayNotFollow 13 removal_failed 1014399 (Associated library abc 3) }
+    ensures at_the_bar { MayFollow 15 removal_failed 1014400 (Associated library abc 3) }
+    ensures touched { MayFollow 4 blob_named_in_window 1000001 (Touched library abc) }
+    ensures touched_unknown { MayNotFollow 3 blob_named_in_window 1000001 (Touched library abc) }
+    ensures unassociated { MayFollow 10 blob_out_of_window 1007200 (Unassociated 9 library abc) }
+    ensures young { MayNotFollow 6 blob_out_of_window 1007199 (Unassociated 5 library abc) }
+    ensures by_client { MayNotFollow 10 blob_out_of_window 1007200 (Unassociated 0 library abc) }
+    ensures needed { MayNotFollow 11 tag_dropped 1007200 (Unassociated 10 library braces) }
+    ensures adopted { MayFollow 6 content_adopted 1000000 (Adopted 4 abc 3) }
+    ensures stored { MayNotFollow 7 content_adopted 1000000 (Adopted 4 abc 3) }
+{}
+
+/// A manifest is put where the project has what it refers to and its repository the manifests that it lists,
+/// and under a tag that it may have. It is dropped where no index lists it and no tag of it is immutable, and
+/// by a collection where it has no tag and is out of the window. A tag that is dropped is mutable, and a
+/// manifest that is pulled is there.
+pub fn which_entries_of_manifests_are_legal()
+    ensures put { MayFollow 16 blob_mounted 0 (image_entry repo_a image (braces ∷ abc ∷ []) v1) }
+    ensures unknown_reference { MayNotFollow 13 blob_mounted 0 (image_entry repo_a image (braces ∷ abc ∷ []) v1) }
+    ensures listed { MayFollow 9 index_dropped_first 0 (index_entry repo_a index (image ∷ []) all) }
+    ensures unknown_child { MayNotFollow 6 index_dropped_first 0 (index_entry repo_a index (image ∷ []) all) }
+    ensures over_limit { MayNotFollow 12 limit_passed 0 (image_entry repo_a image (abc ∷ []) v1) }
+    ensures same_again { MayFollow 10 tag_immutable 0 (image_entry repo_a image (braces ∷ []) v1) }
+    ensures immutable_moved { MayNotFollow 15 tag_immutable 0 (image_entry repo_a other_image (braces ∷ abc ∷ []) v1) }
+    ensures dropped { MayFollow 10 index_dropped_first 0 (ArtifactDropped 0 repo_a index) }
+    ensures with_parent { MayNotFollow 10 index_dropped_first 0 (ArtifactDropped 0 repo_a image) }
+    ensures immutable_dropped { MayNotFollow 16 tag_immutable 0 (ArtifactDropped 0 repo_a image) }
+    ensures untagged { MayFollow 11 tag_dropped 1007200 (ArtifactDropped 10 repo_a image) }
+    ensures young { MayNotFollow 11 tag_dropped 1007199 (ArtifactDropped 10 repo_a image) }
+    ensures tagged { MayNotFollow 9 tag_kept 1007200 (ArtifactDropped 8 repo_a image) }
+    ensures tag_dropped { MayFollow 8 tag_dropped 1000005 (TagDropped repo_a v1) }
+    ensures tag_gone { MayNotFollow 9 tag_dropped 1000005 (TagDropped repo_a v1) }
+    ensures tag_immutable { MayNotFollow 16 tag_immutable 0 (TagDropped repo_a v1) }
+    ensures pulled { MayFollow 7 tag_dropped 1000005 (Pulled repo_a image) }
+    ensures pulled_unknown { MayNotFollow 12 tag_dropped 1007200 (Pulled repo_a image) }
+{}
+
+/// One job of a kind and project is unfinished at a time, and it may be claimed until it is finished.
+pub fn which_entries_of_jobs_are_legal()
+    ensures queued { MayFollow 4 blob_out_of_window 1007199 (JobQueued (Collect false)) }
+    ensures unfinished { MayNotFollow 5 blob_out_of_window 1007199 (JobQueued (Collect true)) }
+    ensures beside { MayFollow 5 blob_out_of_window 1007199 (JobQueued (Retain library)) }
+    ensures for_unknown { MayNotFollow 5 blob_out_of_window 1007199 (JobQueued (Retain other)) }
+    ensures retain_unfinished { MayNotFollow 23 two_of_five_kept 1000010 (JobQueued (Retain library)) }
+    ensures claimed { MayFollow 5 blob_out_of_window 1007199 (JobClaimed 5) }
+    ensures claimed_again { MayFollow 9 collection_stopped 1007300 (JobClaimed 5) }
+    ensures finished { MayNotFollow 8 blob_out_of_window 1007199 (JobClaimed 5) }
+    ensures unknown { MayNotFollow 5 blob_out_of_window 1007199 (JobClaimed 4) }
+{}
+
+/// A collection marks exactly what may go, once, and takes what nothing moved since its mark.
+pub fn which_marks_and_takings_are_legal()
+    ensures marked { MayFollow 11 blob_out_of_window 1007200 (GcMarked 9 (abc ∷ []) [] (Some abc) true) }
+    ensures left_out { MayNotFollow 11 blob_out_of_window 1007200 (GcMarked 9 [] [] (Some abc) true) }
+    ensures owned { MayNotFollow 6 blob_out_of_window 1007199 (GcMarked 5 (abc ∷ []) [] (Some abc) true) }
+    ensures more_to_come { MayNotFollow 11 blob_out_of_window 1007200 (GcMarked 9 (abc ∷ []) [] (Some abc) false) }
+    ensures marked_to_the_end { MayNotFollow 12 blob_out_of_window 1007200 (GcMarked 9 [] [] (Some abc) true) }
+    ensures barred { MayFollow 13 removal_awaited 1014399 (GcMarked 12 [] (abc ∷ []) (Some abc) true) }
+    ensures barred_left_out { MayNotFollow 13 removal_awaited 1014399 (GcMarked 12 [] [] (Some abc) true) }
+    ensures barred_marked { MayNotFollow 13 removal_awaited 1014399 (GcMarked 12 (abc ∷ []) [] (Some abc) true) }
+    ensures taken { MayFollow 12 blob_out_of_window 1007200 (Taking 9 abc) }
+    ensures unmarked { MayNotFollow 11 blob_out_of_window 1007200 (Taking 9 abc) }
+    ensures pushed_since { MayNotFollow 11 blob_pushed_after_mark 1007200 (Taking 5 abc) }
+    ensures taken_twice { MayNotFollow 13 blob_out_of_window 1007200 (Taking 9 abc) }
+{}
+
+/// Content that was taken is collected, or its removal failed. The removal came too late where another claim
+/// or the bar did. A candidate that was moved since its mark was touched. A collection is done when each
+/// candidate has its verdict.
+pub fn which_verdicts_are_legal()
+    ensures collected { MayFollow 13 blob_out_of_window 1007200 (Collected 9 abc) }
+    ensures not_taken { MayNotFollow 12 blob_out_of_window 1007200 (Collected 9 abc) }
+    ensures after_failure { MayNotFollow 10 removal_failed 1007200 (Collected 5 abc) }
+    ensures touched { MayFollow 11 blob_pushed_after_mark 1007200 (GcSkipped 5 abc verdict.Touched) }
+    ensures untouched { MayNotFollow 12 blob_out_of_window 1007200 (GcSkipped 9 abc verdict.Touched) }
+    ensures failed { MayFollow 9 removal_failed 1007200 (GcSkipped 5 abc verdict.Failed) }
+    ensures failed_untaken { MayNotFollow 8 removal_failed 1007200 (GcSkipped 5 abc verdict.Failed) }
+    ensures barred_by_claim { MayFollow 10 collection_stopped 1007300 (GcSkipped 5 abc verdict.Barred) }
+    ensures barred_by_time { MayFollow 9 collection_stopped 1014400 (GcSkipped 5 abc verdict.Barred) }
+    ensures not_barred { MayNotFollow 9 collection_stopped 1014399 (GcSkipped 5 abc verdict.Barred) }
+    ensures pending { MayNotFollow 9 collection_stopped 1014400 (GcSkipped 5 abc verdict.Pending) }
+    ensures done { MayFollow 14 blob_out_of_window 1007200 (GcDone 9) }
+    ensures undecided { MayNotFollow 13 blob_out_of_window 1007200 (GcDone 9) }
+    ensures not_marked { MayNotFollow 11 blob_out_of_window 1007200 (GcDone 9) }
+{}
+
+/// A retention job begins once. Each tag that the rules leave out has one turn, with the verdict that it has
+/// then, and when all had theirs the job is done.
+pub fn which_entries_of_retention_are_legal()
+    ensures begun { MayFollow 22 two_of_five_kept 1000010 (RetainBegun 21) }
+    ensures unclaimed { MayNotFollow 21 two_of_five_kept 1000010 (RetainBegun 21) }
+    ensures begun_again { MayNotFollow 23 two_of_five_kept 1000010 (RetainBegun 21) }
+    ensures immutable { MayFollow 26 two_of_five_kept 1000010 (RetainTurn 21 repo_a (tag_of 1) turn.Immutable) }
+    ensures immutable_dropped { MayNotFollow 26 two_of_five_kept 1000010 (RetainTurn 21 repo_a (tag_of 1) turn.Dropped) }
+    ensures second_turn { MayNotFollow 27 two_of_five_kept 1000010 (RetainTurn 21 repo_a (tag_of 1) turn.Immutable) }
+    ensures changed { MayFollow 27 two_of_five_kept 1000010 (RetainTurn 21 repo_a (tag_of 2) turn.Changed) }
+    ensures put_again_dropped { MayNotFollow 27 two_of_five_kept 1000010 (RetainTurn 21 repo_a (tag_of 2) turn.Dropped) }
+    ensures dropped { MayFollow 29 two_of_five_kept 1000010 (RetainTurn 21 repo_a (tag_of 3) turn.Dropped) }
+    ensures kept_dropped { MayNotFollow 29 two_of_five_kept 1000010 (RetainTurn 21 repo_a (tag_of 4) turn.Dropped) }
+    ensures done { MayFollow 30 two_of_five_kept 1000010 (RetainDone 21) }
+    ensures turn_left_out { MayNotFollow 29 two_of_five_kept 1000010 (RetainDone 21) }
+    ensures not_begun { MayNotFollow 22 two_of_five_kept 1000010 (RetainDone 21) }
 {}
