@@ -1,5 +1,6 @@
 pub mod ArtifactChanges
 pub mod ArtifactEffects
+pub mod BatchExamples
 pub mod BlobEffects
 pub mod Changes
 pub mod CollectEffects

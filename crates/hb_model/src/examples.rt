@@ -2,7 +2,7 @@
 //! see, what the rows are, and what may go, at the moments that matter.
 
 ghost use Rattle.std.specs.Prelude.{◌≡◌, ◌+◌, ◌||◌, pos, negsuc, ℕ, List, [], ◌∷◌, length, map, take, Some, None, true, false, codes};
-ghost use Rattle.std.specs.List.{find};
+ghost use Rattle.std.specs.List.{filter};
 ghost use Rattle.hb_records.specs.declared.jobs.Phase.TheVariants as phase;
 ghost use Rattle.hb_records.specs.declared.jobs.TagVerdict.TheVariants as turn;
 ghost use Rattle.hb_records.specs.declared.jobs.Verdict.TheVariants as verdict;
@@ -14,7 +14,7 @@ ghost use Rattle.hb_model.specs.Seen.{seen};
 ghost use Rattle.hb_model.specs.Words.{last_kind};
 ghost use Rattle.hb_model.specs.Registry.{pair_in, tag_in, project_in, artifact_in};
 ghost use Rattle.hb_model.specs.Replay.{replay, size_of};
-ghost use Rattle.hb_model.specs.Moves.{takes_digest, collects};
+ghost use Rattle.hb_model.specs.Moves.{takes_digest, collects, moves};
 ghost use Rattle.hb_model.specs.Presence.{present, collecting, usage, needed};
 ghost use Rattle.hb_model.specs.Grace.{idle_pair, idle, is_owned, eligible, eligible_but_collecting};
 ghost use Rattle.hb_model.specs.LegalBlobs.{fits_limit};
@@ -27,6 +27,7 @@ ghost use Rattle.hb_model.specs.LegalExamples.{MayFollow, MayNotFollow, fifteen_
 ghost use Rattle.hb_model.specs.ExampleNames.{library, other, repo_a, repo_x, v1, all, braces, image, other_image, index, abc, letter};
 ghost use Rattle.hb_model.specs.ExampleColumns.{project_columns, blob_columns, upload_columns, job_columns, candidate_columns, snap_columns, pair_columns, artifact_columns, tag_columns};
 ghost use Rattle.hb_model.specs.ExampleLogs.{audit_of, after, entry, image_entry, index_entry};
+ghost use Rattle.hb_model.specs.BatchExamples.{rows_by_batches, two_of_four_kept};
 ghost use Rattle.hb_model.specs.MountExamples.{blob_mounted, unknown_mounted};
 ghost use Rattle.hb_model.specs.QuotaExamples.{limit_reached, limit_passed, layer_listed_twice};
 ghost use Rattle.hb_model.specs.ImmutabilityExamples.{tag_immutable, index_dropped_first};
@@ -292,6 +293,39 @@ pub fn the_worked_logs_are_legal()
     ensures adopted { History (audit_of content_adopted) }
     ensures untagged { History (audit_of tag_dropped) }
     ensures tagged { History (audit_of tag_kept) }
+{}
+
+/// The changes of each entry's batch make its effect: applied one batch after the other to empty tables,
+/// they make the rows of the worked audits.
+pub fn the_batches_of_the_worked_logs_make_their_rows()
+    ensures mounted { rows_by_batches (audit_of unknown_mounted) ≡ rows_of (audit_of unknown_mounted) }
+    ensures limit { rows_by_batches (audit_of limit_passed) ≡ rows_of (audit_of limit_passed) }
+    ensures tag { rows_by_batches (audit_of tag_immutable) ≡ rows_of (audit_of tag_immutable) }
+    ensures index { rows_by_batches (audit_of index_dropped_first) ≡ rows_of (audit_of index_dropped_first) }
+    ensures collected { rows_by_batches (audit_of blob_out_of_window) ≡ rows_of (audit_of blob_out_of_window) }
+    ensures named { rows_by_batches (audit_of blob_named_in_window) ≡ rows_of (audit_of blob_named_in_window) }
+    ensures after_mark { rows_by_batches (audit_of blob_pushed_after_mark) ≡ rows_of (audit_of blob_pushed_after_mark) }
+    ensures failed { rows_by_batches (audit_of removal_failed) ≡ rows_of (audit_of removal_failed) }
+    ensures awaited { rows_by_batches (audit_of removal_awaited) ≡ rows_of (audit_of removal_awaited) }
+    ensures stopped { rows_by_batches (audit_of collection_stopped) ≡ rows_of (audit_of collection_stopped) }
+    ensures raced { rows_by_batches (audit_of push_raced) ≡ rows_of (audit_of push_raced) }
+    ensures snaps_by_batches { map snap_columns (rows_by_batches (audit_of two_of_four_kept)).snaps ≡ (tag_of 1, 4, turn.Immutable) ∷ (tag_of 2, 5, turn.Dropped) ∷ (tag_of 3, 6, turn.Kept) ∷ (tag_of 4, 7, turn.Kept) ∷ [] }
+    ensures snaps { map snap_columns (rows_of (audit_of two_of_four_kept)).snaps ≡ (tag_of 1, 4, turn.Immutable) ∷ (tag_of 2, 5, turn.Dropped) ∷ (tag_of 3, 6, turn.Kept) ∷ (tag_of 4, 7, turn.Kept) ∷ [] }
+    ensures tags_by_batches { map (λ row. row.tag) (rows_by_batches (audit_of two_of_four_kept)).tags ≡ map tag_of (1 ∷ 3 ∷ 4 ∷ []) }
+    ensures tags { map (λ row. row.tag) (rows_of (audit_of two_of_four_kept)).tags ≡ map tag_of (1 ∷ 3 ∷ 4 ∷ []) }
+    ensures jobs_by_batches { map job_columns (rows_by_batches (audit_of two_of_four_kept)).jobs ≡ (8, phase.Finished, 9, 13) ∷ [] }
+    ensures jobs { map job_columns (rows_of (audit_of two_of_four_kept)).jobs ≡ (8, phase.Finished, 9, 13) ∷ [] }
+{}
+
+/// Which entries move a digest: those that store it or name it, that mark it, take it or remove it, and that
+/// leave it after a removal that failed or came too late. One that leaves it because it was touched doesn't.
+pub fn which_entries_move_a_digest()
+    ensures collected { map (λ e. e.number) (filter (λ e. moves abc e.kind) (audit_of blob_out_of_window)) ≡ 14 ∷ 13 ∷ 12 ∷ 4 ∷ [] }
+    ensures named { map (λ e. e.number) (filter (λ e. moves abc e.kind) (audit_of blob_named_in_window)) ≡ 5 ∷ 4 ∷ [] }
+    ensures touched { map (λ e. e.number) (filter (λ e. moves abc e.kind) (audit_of blob_pushed_after_mark)) ≡ 19 ∷ 11 ∷ 8 ∷ 4 ∷ [] }
+    ensures failed { map (λ e. e.number) (filter (λ e. moves abc e.kind) (audit_of removal_failed)) ≡ 16 ∷ 10 ∷ 9 ∷ 8 ∷ 4 ∷ [] }
+    ensures barred { map (λ e. e.number) (filter (λ e. moves abc e.kind) (audit_of collection_stopped)) ≡ 19 ∷ 18 ∷ 17 ∷ 11 ∷ 9 ∷ 8 ∷ 4 ∷ [] }
+    ensures adopted { map (λ e. e.number) (filter (λ e. moves abc e.kind) (audit_of content_adopted)) ≡ 13 ∷ 12 ∷ 11 ∷ 7 ∷ [] }
 {}
 
 /// The first entry makes `library` without a limit. Entries are numbered, and moments never fall.

@@ -4,3 +4,5 @@
 
 pub mod examples;
 pub mod laws;
+#[cfg(test)]
+mod tests;
