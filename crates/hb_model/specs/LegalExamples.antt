@@ -11,7 +11,7 @@ use Rattle.hb_model.specs.ImmutabilityExamples.{matching}
 abbrev pub MayFollow : ℕ → Log → ℕ → EntryKind → Type 0
 MayFollow n log moment kind = Legal (after n log) (entry (suc n) moment kind)
 
--- after the first so many entries of the log, nothing of this kind is legal at this moment
+-- after the first so many entries of the log, this is not legal at this moment
 abbrev pub MayNotFollow : ℕ → Log → ℕ → EntryKind → Type 0
 MayNotFollow n log moment kind = ¬ (LegalKind (after n log) moment kind)
 
