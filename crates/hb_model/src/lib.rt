@@ -1,5 +1,18 @@
-//! What the registry means: what clients see after an audit, which audits are legal, which rows are those of
-//! an audit, and what every event keeps.
+//! What the registry means: what clients see after an audit, which audits are legal, which rows are those of an
+//! audit, and what every event keeps. docs/DEFINITIONS.md has each definition in a sentence.
+//!
+//! An audit is the list of its entries, the newest first. There is no code here yet: who stands above cites
+//! the definitions.
+//!
+//! - `specs/Registry`, `specs/Replay`: what clients can see, and what they see after an audit.
+//! - `specs/Moves`, `specs/Presence`, `specs/Grace`: which entries are about a digest, whether the store holds it,
+//!   what a project uses and needs, and when something may go.
+//! - `specs/History`, `specs/Legal..`, `specs/Jobs`, `specs/Snapshots`: which entry may follow an audit.
+//! - `specs/Effects` and the effects by theme: what an entry does to the rows. `specs/Changes` and the changes by
+//!   theme: the same as a batch. `specs/Seen`: what clients see of rows.
+//! - `specs/Sound`, `specs/Whole`: what is promised of stored bytes, and what every event keeps.
+//! - [`examples`]: what all of them come to in worked logs, and which entries are legal there.
+//! - [`laws`]: what holds of the definitions.
 #![tactic(auto)]
 
 pub mod examples;
