@@ -1,8 +1,8 @@
--- A manifest is pulled, and loses its tag.
+-- A manifest is pulled, is put again, and loses its tag.
 use Rattle.std.specs.Prelude.{true, [], ◌∷◌, ◌++◌, Some}
-use Rattle.hb_records.specs.declared.entries.EntryKind.TheVariants.{ArtifactDropped, TagDropped, Pulled, Unassociated, JobQueued, JobClaimed, GcMarked}
+use Rattle.hb_records.specs.declared.entries.EntryKind.TheVariants.{UploadBegun, UploadEnded, ArtifactPut, ArtifactDropped, TagDropped, Pulled, Unassociated, JobQueued, JobClaimed, GcMarked}
 use Rattle.hb_records.specs.declared.jobs.JobKind.TheVariants.{Collect}
-use Rattle.hb_model.specs.ExampleNames.{library, repo_a, v1, braces, image}
+use Rattle.hb_model.specs.ExampleNames.{library, repo_a, v1, all, index_type, braces, image}
 use Rattle.hb_model.specs.ExampleLogs.{Log, at, opened, pushed, image_put}
 
 -- it is pushed with a tag at the moment 1,000,000
@@ -15,6 +15,13 @@ abbrev pub tag_dropped : Log
 tag_dropped = image_tagged
     ++ at 1000005 (Pulled repo_a image ∷ TagDropped repo_a v1 ∷ [])
     ++ at 1007200 (JobQueued (Collect true) ∷ JobClaimed 10 ∷ ArtifactDropped 10 repo_a image ∷ Unassociated 10 library braces ∷ Unassociated 10 library image ∷ GcMarked 10 (braces ∷ image ∷ []) [] (Some image) true ∷ [])
+
+-- it is pulled five seconds later, and put again under another tag two seconds after that, as if it had another
+-- media type
+abbrev pub image_put_again : Log
+image_put_again = image_tagged
+    ++ at 1000005 (Pulled repo_a image ∷ [])
+    ++ at 1000007 (UploadBegun repo_a ∷ UploadEnded 0 9 ∷ ArtifactPut repo_a image 400 index_type (braces ∷ []) [] (Some all) ∷ [])
 
 -- the same collection while the tag is there
 abbrev pub tag_kept : Log

@@ -24,17 +24,17 @@ ghost use Rattle.hb_model.specs.LegalArtifacts.{is_immutable_in, may_set_tag, ta
 ghost use Rattle.hb_model.specs.Snapshots.{snapshot_of, left_out, unretained, turn_of};
 ghost use Rattle.hb_model.specs.History.{Legal, History};
 ghost use Rattle.hb_model.specs.LegalExamples.{MayFollow, MayNotFollow, fifteen_rules, sixteen_rules};
-ghost use Rattle.hb_model.specs.ExampleNames.{library, other, repo_a, repo_x, v1, all, braces, image, other_image, index, abc, letter};
+ghost use Rattle.hb_model.specs.ExampleNames.{library, other, repo_a, repo_x, v1, all, image_type, braces, image, other_image, index, abc, letter};
 ghost use Rattle.hb_model.specs.ExampleColumns.{project_columns, blob_columns, upload_columns, job_columns, candidate_columns, snap_columns, pair_columns, artifact_columns, tag_columns};
 ghost use Rattle.hb_model.specs.ExampleLogs.{audit_of, after, entry, image_entry, index_entry};
-ghost use Rattle.hb_model.specs.BatchExamples.{rows_by_batches, two_of_four_kept};
+ghost use Rattle.hb_model.specs.BatchExamples.{BatchesMakeRows, rows_by_batches, two_of_four_kept};
 ghost use Rattle.hb_model.specs.MountExamples.{blob_mounted, unknown_mounted};
 ghost use Rattle.hb_model.specs.QuotaExamples.{limit_reached, limit_passed, layer_listed_twice};
 ghost use Rattle.hb_model.specs.ImmutabilityExamples.{tag_immutable, index_dropped_first};
 ghost use Rattle.hb_model.specs.CollectExamples.{blob_out_of_window, blob_named_in_window, blob_pushed_after_mark, removal_failed, removal_awaited, collection_stopped, push_raced};
 ghost use Rattle.hb_model.specs.RetainExamples.{keep_two, two_of_five_kept, tag_of, tag_item};
 ghost use Rattle.hb_model.specs.UploadExamples.{upload_left, content_adopted};
-ghost use Rattle.hb_model.specs.TagExamples.{tag_dropped, tag_kept};
+ghost use Rattle.hb_model.specs.TagExamples.{image_put_again, tag_dropped, tag_kept};
 
 /// A mounted blob counts in both projects. Before it is mounted the project hasn't got it, and from then on
 /// a manifest of the project can name it.
@@ -259,6 +259,19 @@ pub fn adopted_content_is_safe_for_a_window()
     ensures seen { seen (rows_of (audit_of content_adopted)) ≡ replay (audit_of content_adopted) }
 {}
 
+/// A manifest that is put again is kept: only the moment of its push moves. It names what it refers to, whose
+/// window begins anew.
+pub fn a_manifest_that_is_put_again_is_kept()
+    ensures kept { (replay (audit_of image_put_again)).artifacts ≡ record { name = repo_a; digest = image; size = 400; media = image_type; refs = braces ∷ []; children = []; pushed = 1000007; pulled = 1000005 } ∷ [] }
+    ensures version { map (λ row. row.version) (rows_of (audit_of image_put_again)).artifacts ≡ 11 ∷ [] }
+    ensures tags { map tag_columns (replay (audit_of image_put_again)).tags ≡ (all, image, 11, 1000007) ∷ (v1, image, 7, 1000000) ∷ [] }
+    ensures touched { map blob_columns (rows_of (audit_of image_put_again)).blobs ≡ (braces, status.Idle, 11, 1000007, 0) ∷ (image, status.Idle, 11, 1000007, 0) ∷ [] }
+    ensures in_window { idle_pair (audit_of image_put_again) library braces 1007206 ≡ false }
+    ensures out_of_window { idle_pair (audit_of image_put_again) library braces 1007207 ≡ true }
+    ensures used { usage (replay (audit_of image_put_again)) library ≡ 402 }
+    ensures seen { seen (rows_of (audit_of image_put_again)) ≡ replay (audit_of image_put_again) }
+{}
+
 /// A manifest is pulled, and stays when its tag goes. A collection of untagged manifests drops it, and takes
 /// it and what it named from the project.
 pub fn an_untagged_manifest_goes()
@@ -292,23 +305,24 @@ pub fn the_worked_logs_are_legal()
     ensures uploaded { History (audit_of upload_left) }
     ensures adopted { History (audit_of content_adopted) }
     ensures untagged { History (audit_of tag_dropped) }
+    ensures put_again { History (audit_of image_put_again) }
     ensures tagged { History (audit_of tag_kept) }
 {}
 
-/// The changes of each entry's batch make its effect: applied one batch after the other to empty tables,
-/// they make the rows of the worked audits.
+/// The changes of each entry's batch make its effect, entry by entry. Retention is shown on a shorter log, and
+/// by the rows that its entries change.
 pub fn the_batches_of_the_worked_logs_make_their_rows()
-    ensures mounted { rows_by_batches (audit_of unknown_mounted) ≡ rows_of (audit_of unknown_mounted) }
-    ensures limit { rows_by_batches (audit_of limit_passed) ≡ rows_of (audit_of limit_passed) }
-    ensures tag { rows_by_batches (audit_of tag_immutable) ≡ rows_of (audit_of tag_immutable) }
-    ensures index { rows_by_batches (audit_of index_dropped_first) ≡ rows_of (audit_of index_dropped_first) }
-    ensures collected { rows_by_batches (audit_of blob_out_of_window) ≡ rows_of (audit_of blob_out_of_window) }
-    ensures named { rows_by_batches (audit_of blob_named_in_window) ≡ rows_of (audit_of blob_named_in_window) }
-    ensures after_mark { rows_by_batches (audit_of blob_pushed_after_mark) ≡ rows_of (audit_of blob_pushed_after_mark) }
-    ensures failed { rows_by_batches (audit_of removal_failed) ≡ rows_of (audit_of removal_failed) }
-    ensures awaited { rows_by_batches (audit_of removal_awaited) ≡ rows_of (audit_of removal_awaited) }
-    ensures stopped { rows_by_batches (audit_of collection_stopped) ≡ rows_of (audit_of collection_stopped) }
-    ensures raced { rows_by_batches (audit_of push_raced) ≡ rows_of (audit_of push_raced) }
+    ensures mounted { BatchesMakeRows (audit_of unknown_mounted) }
+    ensures limit { BatchesMakeRows (audit_of limit_passed) }
+    ensures tag { BatchesMakeRows (audit_of tag_immutable) }
+    ensures index { BatchesMakeRows (audit_of index_dropped_first) }
+    ensures collected { BatchesMakeRows (audit_of blob_out_of_window) }
+    ensures named { BatchesMakeRows (audit_of blob_named_in_window) }
+    ensures after_mark { BatchesMakeRows (audit_of blob_pushed_after_mark) }
+    ensures failed { BatchesMakeRows (audit_of removal_failed) }
+    ensures awaited { BatchesMakeRows (audit_of removal_awaited) }
+    ensures stopped { BatchesMakeRows (audit_of collection_stopped) }
+    ensures raced { BatchesMakeRows (audit_of push_raced) }
     ensures snaps_by_batches { map snap_columns (rows_by_batches (audit_of two_of_four_kept)).snaps ≡ (tag_of 1, 4, turn.Immutable) ∷ (tag_of 2, 5, turn.Dropped) ∷ (tag_of 3, 6, turn.Kept) ∷ (tag_of 4, 7, turn.Kept) ∷ [] }
     ensures snaps { map snap_columns (rows_of (audit_of two_of_four_kept)).snaps ≡ (tag_of 1, 4, turn.Immutable) ∷ (tag_of 2, 5, turn.Dropped) ∷ (tag_of 3, 6, turn.Kept) ∷ (tag_of 4, 7, turn.Kept) ∷ [] }
     ensures tags_by_batches { map (λ row. row.tag) (rows_by_batches (audit_of two_of_four_kept)).tags ≡ map tag_of (1 ∷ 3 ∷ 4 ∷ []) }

@@ -6,14 +6,14 @@ ghost use Rattle.hb_model.specs.ExampleNames as example;
 use crate::examples::{
     a_blob_is_collected_after_its_window, a_blob_that_is_pushed_after_its_mark_is_kept,
     a_failed_removal_bars_a_push, a_layer_counts_once, a_limit_may_be_reached,
-    a_limit_may_fall_below_what_is_used, a_mount_of_unknown_content_begins_an_upload,
-    a_mounted_blob_counts_in_both_projects, a_named_blob_is_kept, a_push_may_be_raced,
-    a_removal_of_unknown_outcome_is_barred, a_removal_that_may_still_come_bars_a_mark,
-    adopted_content_is_safe_for_a_window, an_immutable_tag_keeps_its_manifest,
-    an_index_keeps_its_manifests, an_untagged_manifest_goes, an_upload_that_is_left_goes,
-    audits_begin_with_the_library_and_are_numbered, retention_gives_each_tag_its_turn,
-    the_batches_of_the_worked_logs_make_their_rows, the_worked_logs_are_legal,
-    which_entries_move_a_digest, which_entries_of_content_are_legal,
+    a_limit_may_fall_below_what_is_used, a_manifest_that_is_put_again_is_kept,
+    a_mount_of_unknown_content_begins_an_upload, a_mounted_blob_counts_in_both_projects,
+    a_named_blob_is_kept, a_push_may_be_raced, a_removal_of_unknown_outcome_is_barred,
+    a_removal_that_may_still_come_bars_a_mark, adopted_content_is_safe_for_a_window,
+    an_immutable_tag_keeps_its_manifest, an_index_keeps_its_manifests, an_untagged_manifest_goes,
+    an_upload_that_is_left_goes, audits_begin_with_the_library_and_are_numbered,
+    retention_gives_each_tag_its_turn, the_batches_of_the_worked_logs_make_their_rows,
+    the_worked_logs_are_legal, which_entries_move_a_digest, which_entries_of_content_are_legal,
     which_entries_of_jobs_are_legal, which_entries_of_manifests_are_legal,
     which_entries_of_projects_are_legal, which_entries_of_retention_are_legal,
     which_entries_of_uploads_are_legal, which_marks_and_takings_are_legal,
@@ -82,6 +82,7 @@ fn worked_logs(_rt: HostRuntime) -> Result<(), Fail> {
     retention_gives_each_tag_its_turn();
     an_upload_that_is_left_goes();
     adopted_content_is_safe_for_a_window();
+    a_manifest_that_is_put_again_is_kept();
     an_untagged_manifest_goes();
     the_batches_of_the_worked_logs_make_their_rows();
     which_entries_move_a_digest();
