@@ -323,6 +323,12 @@ pub fn the_batches_of_the_worked_logs_make_their_rows()
     ensures awaited { BatchesMakeRows (audit_of removal_awaited) }
     ensures stopped { BatchesMakeRows (audit_of collection_stopped) }
     ensures raced { BatchesMakeRows (audit_of push_raced) }
+    ensures uploaded { BatchesMakeRows (audit_of upload_left) }
+    ensures adopted { BatchesMakeRows (audit_of content_adopted) }
+    ensures put_again { BatchesMakeRows (audit_of image_put_again) }
+    ensures untagged { BatchesMakeRows (audit_of tag_dropped) }
+    ensures begun_by_batches { map job_columns (rows_by_batches (after 10 two_of_four_kept)).jobs ≡ (8, phase.Turning, 9, 10) ∷ [] }
+    ensures begun { map job_columns (rows_of (after 10 two_of_four_kept)).jobs ≡ (8, phase.Turning, 9, 10) ∷ [] }
     ensures snaps_by_batches { map snap_columns (rows_by_batches (audit_of two_of_four_kept)).snaps ≡ (tag_of 1, 4, turn.Immutable) ∷ (tag_of 2, 5, turn.Dropped) ∷ (tag_of 3, 6, turn.Kept) ∷ (tag_of 4, 7, turn.Kept) ∷ [] }
     ensures snaps { map snap_columns (rows_of (audit_of two_of_four_kept)).snaps ≡ (tag_of 1, 4, turn.Immutable) ∷ (tag_of 2, 5, turn.Dropped) ∷ (tag_of 3, 6, turn.Kept) ∷ (tag_of 4, 7, turn.Kept) ∷ [] }
     ensures tags_by_batches { map (λ row. row.tag) (rows_by_batches (audit_of two_of_four_kept)).tags ≡ map tag_of (1 ∷ 3 ∷ 4 ∷ []) }
