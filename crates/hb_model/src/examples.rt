@@ -302,6 +302,7 @@ pub fn the_worked_logs_are_legal()
     ensures stopped { History (audit_of collection_stopped) }
     ensures raced { History (audit_of push_raced) }
     ensures retained { History (audit_of two_of_five_kept) }
+    ensures shortly_retained { History (audit_of two_of_four_kept) }
     ensures uploaded { History (audit_of upload_left) }
     ensures adopted { History (audit_of content_adopted) }
     ensures untagged { History (audit_of tag_dropped) }

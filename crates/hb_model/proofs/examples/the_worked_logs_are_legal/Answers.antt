@@ -1,5 +1,5 @@
 use Rattle.std.proofs.Common.{rules}
-use Rattle.hb_model.proofs.ExampleTurns.{not-first, immutable-turn, changed-turn, dropped-turn, retained-done}
+use Rattle.hb_model.proofs.ExampleTurns.{not-first, immutable-turn, changed-turn, dropped-turn, retained-done, short-immutable, short-dropped}
 use Rattle.hb_model.proofs.ExampleVerdicts.{out_of_window-done, after_mark-done, failed-done, stopped-done, stopped-done_again, raced-done, adopted-done}
 use Rattle.hb_model.proofs.examples.the_worked_logs_are_legal.Goals as goal
 
@@ -23,3 +23,6 @@ returns-clause-retained c = search (rules, not-first, immutable-turn, changed-tu
 
 pub returns-clause-adopted : goal.returns-clause-adopted
 returns-clause-adopted c = search (rules, adopted-done)
+
+pub returns-clause-shortly_retained : goal.returns-clause-shortly_retained
+returns-clause-shortly_retained c = search (rules, not-first, short-immutable, short-dropped)
