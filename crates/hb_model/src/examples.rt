@@ -26,15 +26,31 @@ ghost use Rattle.hb_model.specs.History.{Legal, History};
 ghost use Rattle.hb_model.specs.LegalExamples.{MayFollow, MayNotFollow, fifteen_rules, sixteen_rules};
 ghost use Rattle.hb_model.specs.ExampleNames.{library, other, repo_a, repo_x, v1, all, image_type, braces, image, other_image, index, abc, letter};
 ghost use Rattle.hb_model.specs.ExampleColumns.{project_columns, blob_columns, upload_columns, job_columns, candidate_columns, snap_columns, pair_columns, artifact_columns, tag_columns};
-ghost use Rattle.hb_model.specs.ExampleLogs.{audit_of, after, entry, image_entry, index_entry};
+ghost use Rattle.hb_store.specs.MemStores.{empty_contents};
+ghost use Rattle.hb_model.specs.Sound.{IsSound};
+ghost use Rattle.hb_model.specs.Whole.{IsWhole, no_notes};
+ghost use Rattle.hb_model.specs.ExampleLogs.{at, opened, audit_of, after, entry, image_entry, index_entry};
 ghost use Rattle.hb_model.specs.BatchExamples.{BatchesMakeRows, rows_by_batches, two_of_four_kept};
 ghost use Rattle.hb_model.specs.MountExamples.{blob_mounted, unknown_mounted};
 ghost use Rattle.hb_model.specs.QuotaExamples.{limit_reached, limit_passed, layer_listed_twice};
 ghost use Rattle.hb_model.specs.ImmutabilityExamples.{tag_immutable, index_dropped_first};
-ghost use Rattle.hb_model.specs.CollectExamples.{blob_out_of_window, blob_named_in_window, blob_pushed_after_mark, removal_failed, removal_awaited, collection_stopped, push_raced};
+ghost use Rattle.hb_model.specs.CollectExamples.{abc_pushed, blob_out_of_window, blob_named_in_window, blob_pushed_after_mark, removal_failed, removal_awaited, collection_stopped, push_raced};
 ghost use Rattle.hb_model.specs.RetainExamples.{keep_two, two_of_five_kept, tag_of, tag_item};
 ghost use Rattle.hb_model.specs.UploadExamples.{upload_left, content_adopted};
 ghost use Rattle.hb_model.specs.TagExamples.{image_put_again, tag_dropped, tag_kept};
+
+/// What every event keeps holds of the start: the entry that makes `library`, nothing to remember, and a store
+/// that holds nothing.
+pub fn a_new_registry_is_whole()
+    ensures whole { IsWhole (rows_of (audit_of (at 0 (opened ∷ [])))) no_notes empty_contents 0 }
+    ensures sound { IsSound (replay (audit_of (at 0 (opened ∷ [])))) empty_contents }
+{}
+
+/// It doesn't hold where a project has content that the store hasn't.
+pub fn a_registry_without_its_content_is_not_whole()
+    ensures whole { ¬ (IsWhole (rows_of (audit_of abc_pushed)) no_notes empty_contents 1000000) }
+    ensures sound { ¬ (IsSound (replay (audit_of abc_pushed)) empty_contents) }
+{}
 
 /// A mounted blob counts in both projects. Before it is mounted the project hasn't got it, and from then on
 /// a manifest of the project can name it.

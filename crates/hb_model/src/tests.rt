@@ -8,7 +8,8 @@ use crate::examples::{
     a_failed_removal_bars_a_push, a_layer_counts_once, a_limit_may_be_reached,
     a_limit_may_fall_below_what_is_used, a_manifest_that_is_put_again_is_kept,
     a_mount_of_unknown_content_begins_an_upload, a_mounted_blob_counts_in_both_projects,
-    a_named_blob_is_kept, a_push_may_be_raced, a_removal_of_unknown_outcome_is_barred,
+    a_named_blob_is_kept, a_new_registry_is_whole, a_push_may_be_raced,
+    a_registry_without_its_content_is_not_whole, a_removal_of_unknown_outcome_is_barred,
     a_removal_that_may_still_come_bars_a_mark, adopted_content_is_safe_for_a_window,
     an_immutable_tag_keeps_its_manifest, an_index_keeps_its_manifests, an_untagged_manifest_goes,
     an_upload_that_is_left_goes, audits_begin_with_the_library_and_are_numbered,
@@ -65,6 +66,8 @@ fn digests_are_those_of_their_texts(rt: HostRuntime) -> Result<(), Fail> {
 #[test]
 fn worked_logs(_rt: HostRuntime) -> Result<(), Fail> {
     nothing_is_there_before_the_first_entry();
+    a_new_registry_is_whole();
+    a_registry_without_its_content_is_not_whole();
     a_mounted_blob_counts_in_both_projects();
     a_mount_of_unknown_content_begins_an_upload();
     a_limit_may_be_reached();
