@@ -14,6 +14,7 @@ use crate::values::{limit_in, project_in, read_id, read_project, version_in};
 use hb_text::Memory;
 use std::alloc::Global;
 
+/// What a method asks of a project.
 pub fn project(
     alloc: Global,
     method: Method,
@@ -40,6 +41,7 @@ pub fn project(
     }
 }
 
+/// What a method asks of a project's rules.
 pub fn rules(alloc: Global, method: Method, name: &[u8]) -> Result<Route, RouteFault>
     ensures { (query : List ℕ) → Gives (IsServed (Rules name.now) method query) result }
 {
@@ -77,6 +79,7 @@ fn wanted_job(alloc: Global, query: &[u8]) -> Result<Given<WantedJob>, Memory>
     Ok(Given::Invalid)
 }
 
+/// What a method asks of the list of jobs.
 pub fn jobs(alloc: Global, method: Method, query: &[u8]) -> Result<Route, RouteFault>
     ensures { Gives (IsServed Jobs method query.now) result }
 {
@@ -88,6 +91,7 @@ pub fn jobs(alloc: Global, method: Method, query: &[u8]) -> Result<Route, RouteF
     }
 }
 
+/// What a method asks of one job.
 pub fn job(method: Method, id: &[u8]) -> Result<Route, RouteFault>
     ensures { (query : List ℕ) → Gives (IsServed (Job id.now) method query) result }
 {

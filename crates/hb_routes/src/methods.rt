@@ -13,6 +13,7 @@ pub enum Method {
     Other,
 }
 
+/// The method that a text names. Methods compare as bytes (RFC 9110, section 9.1).
 pub fn method_of(text: &[u8]) -> Method
     ensures { result ≡ method_of text.now }
 {

@@ -9,7 +9,7 @@ use percent_encoding::percent_decode;
 use std::alloc::Global;
 use std::borrow::CowSlice;
 
-// What stands before the first such byte, and what stands behind it: all and nothing where there is none.
+/// What stands before the first such byte, and what stands behind it: all and nothing where there is none.
 pub fn cut(text: &[u8], at: u8) -> (&[u8], &[u8])
     ensures before { result.0.now ≡ before at text.now }
     ensures behind { result.1.now ≡ behind at text.now }

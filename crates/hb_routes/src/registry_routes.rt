@@ -13,6 +13,7 @@ use crate::values::{
 };
 use std::alloc::Global;
 
+/// What a method asks of the front of the API (OCI Distribution Specification, end-1).
 pub fn base(method: Method) -> Result<Route, RouteFault>
     ensures { (query : List ℕ) → Gives (IsServed Base method query) result }
 {
@@ -22,6 +23,7 @@ pub fn base(method: Method) -> Result<Route, RouteFault>
     }
 }
 
+/// What a method asks of a repository's tags (OCI Distribution Specification, "Listing Tags").
 pub fn tags(alloc: Global, method: Method, name: &[u8], query: &[u8]) -> Result<Route, RouteFault>
     ensures { Gives (IsServed (Tags name.now) method query.now) result }
 {
@@ -36,6 +38,8 @@ pub fn tags(alloc: Global, method: Method, name: &[u8], query: &[u8]) -> Result<
     }
 }
 
+/// What a method asks of a repository's uploads: to mount a blob, to push one whole, or to begin an
+/// upload (OCI Distribution Specification, "Pushing blobs").
 pub fn uploads(
     alloc: Global,
     method: Method,
@@ -68,6 +72,7 @@ pub fn uploads(
     }
 }
 
+/// What a method asks of one upload (OCI Distribution Specification, "Pushing a blob in chunks").
 pub fn upload(
     alloc: Global,
     method: Method,
@@ -105,6 +110,7 @@ pub fn upload(
     }
 }
 
+/// What a method asks of a blob (OCI Distribution Specification, "Pulling blobs").
 pub fn blob(alloc: Global, method: Method, name: &[u8], digest: &[u8]) -> Result<Route, RouteFault>
     ensures { (query : List ℕ) → Gives (IsServed (Blob name.now digest.now) method query) result }
 {
@@ -127,6 +133,7 @@ pub fn blob(alloc: Global, method: Method, name: &[u8], digest: &[u8]) -> Result
     }
 }
 
+/// What a method asks of a manifest, named by a tag or a digest.
 pub fn manifest(
     alloc: Global,
     method: Method,

@@ -66,8 +66,7 @@ impl Router {
         }
     }
 
-    /// The route of a request: what its method asks of what the path of its target names. Work is linear
-    /// in the length of the target.
+    /// The route of a request: what its method asks of what the path of its target names.
     ///
     /// Of several refusals the first in the order of [`RouteFault`] is given: an unknown path, a method that
     /// what the path names isn't served by, a name outside its grammar, and then a tag or a digest. Methods

@@ -14,6 +14,7 @@ use crate::routes::{Given, MOST_TAGS};
 use hb_text::{Digest, Memory, Name, NameFault, ProjectName, Reference, Tag, read_number};
 use std::alloc::Global;
 
+/// The repository that a text names: else `NameInvalid`.
 pub fn read_name(alloc: Global, text: &[u8]) -> Result<Name, RouteFault>
     ensures { IsReading StandsForName RouteFault.NameInvalid text.now result }
 {
@@ -24,6 +25,7 @@ pub fn read_name(alloc: Global, text: &[u8]) -> Result<Name, RouteFault>
     }
 }
 
+/// The project that a text names: else `NameInvalid`.
 pub fn read_project(alloc: Global, text: &[u8]) -> Result<ProjectName, RouteFault>
     ensures { IsReading StandsForProject RouteFault.NameInvalid text.now result }
 {
@@ -34,6 +36,7 @@ pub fn read_project(alloc: Global, text: &[u8]) -> Result<ProjectName, RouteFaul
     }
 }
 
+/// The tag that a text spells: else `TagInvalid`.
 pub fn read_tag(alloc: Global, text: &[u8]) -> Result<Tag, RouteFault>
     ensures { IsReading StandsForTag RouteFault.TagInvalid text.now result }
 {
@@ -51,6 +54,7 @@ fn as_read(digest: Digest) -> Result<Digest, RouteFault>
     Ok(digest)
 }
 
+/// The digest that a text spells: else `DigestInvalid`.
 pub fn read_digest(text: &[u8]) -> Result<Digest, RouteFault>
     ensures { IsReading StandsForDigest RouteFault.DigestInvalid text.now result }
 {
@@ -155,6 +159,7 @@ pub fn most_in(alloc: Global, query: &[u8]) -> Result<u32, Memory>
     }
 }
 
+/// The limit that the query gives, in bytes: -1 for none.
 pub fn limit_in(alloc: Global, query: &[u8]) -> Result<Given<i64>, Memory>
     ensures { IfOk result (IsGiven StandsForLimit (value_of (codes "limit") query.now)) }
 {
@@ -167,6 +172,7 @@ pub fn limit_in(alloc: Global, query: &[u8]) -> Result<Given<i64>, Memory>
     }
 }
 
+/// The version of a project that the query gives.
 pub fn version_in(alloc: Global, query: &[u8]) -> Result<Given<u64>, Memory>
     ensures { IfOk result (IsGiven IsNumber (value_of (codes "version") query.now)) }
 {
@@ -179,6 +185,7 @@ pub fn version_in(alloc: Global, query: &[u8]) -> Result<Given<u64>, Memory>
     }
 }
 
+/// The project that the query gives.
 pub fn project_in(alloc: Global, query: &[u8]) -> Result<Given<ProjectName>, Memory>
     ensures { IfOk result (IsGiven StandsForProject (value_of (codes "project") query.now)) }
 {
