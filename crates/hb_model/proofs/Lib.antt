@@ -1,5 +1,11 @@
-mod BlobRows
+mod ArtifactBatches
+pub mod Batches
+pub mod BlobRows
+mod CollectBatches
+mod ContentBatches
 mod ExampleTurns
 mod ExampleVerdicts
-mod SeenRows
+mod RetainBatches
+pub mod SeenRows
 mod Tables
+pub mod UsedBound
