@@ -8,6 +8,7 @@
 //! answer. `specs/PageKeys`: what holds of every page, also where the rows aren't told.
 #![tactic(auto)]
 
+mod answers;
 mod keeper;
 
 pub use keeper::{KeepFault, Keeper};
