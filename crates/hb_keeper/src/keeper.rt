@@ -89,11 +89,7 @@ pub trait Keeper {
         ensures cause { KeepCause (faults self.old) (faults self.new) result };
 
     /// The row of the project's having the digest.
-    fn pair(
-        &mut self,
-        project: &ProjectName,
-        digest: &Digest,
-    ) -> Result<Option<Assoc>, KeepFault>
+    fn pair(&mut self, project: &ProjectName, digest: &Digest) -> Result<Option<Assoc>, KeepFault>
         ensures told { Reads (rows self.old) result (λ t. pair_at t project.now digest.now) }
         ensures rows { rows self.new ≡ rows self.old }
         ensures cause { KeepCause (faults self.old) (faults self.new) result };

@@ -9,6 +9,9 @@
 #![tactic(auto)]
 
 mod answers;
+mod copies;
 mod keeper;
+mod mem_keeper;
 
 pub use keeper::{KeepFault, Keeper};
+pub use mem_keeper::MemKeeper;
