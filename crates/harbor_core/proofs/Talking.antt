@@ -11,7 +11,7 @@ use Rattle.hb_store.specs.Contents.{Contents}
 use Rattle.hb_text.specs.declared.digests.Digest.{Digest}
 use Rattle.hb_world.specs.First.{IsHeld, Stands, Holds}
 use Rattle.hb_world.specs.declared.first.Pushed.{Pushed}
-use Rattle.hb_world.proofs.Standing.{Stands-trans}
+use Rattle.hb_world.proofs.Standing.{Stands-trans, StillHolds-same}
 use Rattle.harbor_core.specs.Arrived.{Arrived}
 use Rattle.harbor_core.specs.Answers.{answer_text}
 use Rattle.harbor_core.specs.FirstRequests.{Ends, Closes, IsServed, Serves}
@@ -73,7 +73,7 @@ KeepsPushed-next start now later pushed OutOfMemory body first second holds keep
 
 Stands-same : (contents : Option Contents) → Stands contents contents
 Stands-same None = refl
-Stands-same (Some c) = record { true_still = λ d h. h; none_lapsing = λ e. e; held_still = λ e d h. h }
+Stands-same (Some c) = StillHolds-same c
 
 -- of no blob there is nothing to keep
 KeepsPushed-none : (start now : Option Contents) (pushed : List Pushed) → pushed ≡ [] → KeepsPushed start now pushed

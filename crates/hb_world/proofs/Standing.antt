@@ -6,21 +6,33 @@ use Rattle.hb_text.specs.Digests.{digest_of}
 use Rattle.hb_text.specs.declared.digests.Digest.{Digest}
 use Rattle.hb_store.specs.Contents.{Contents, digest_cmp, bytes_of, IsLapsing, lapsed, holding, counting, unstaged}
 use Rattle.hb_store.specs.Calls.{Finds, Becomes, Staging, Placing, Dropping, Unchanged}
+use Rattle.hb_store.specs.declared.rows.StagedBytes.{StagedBytes}
 use Rattle.hb_store.specs.declared.store.StoreFault.{StoreFault}
 use Rattle.hb_store.specs.declared.store.StoreFault.TheVariants.{Failed, Memory}
 use Rattle.hb_store.proofs.HeldBytes.{digest_cmp-equal, digest_cmp-same, bytes_of-holding, bytes_of-lapsed}
-use Rattle.hb_world.specs.First.{IsTrueTo, StillHolds, Stands, Holds}
+use Rattle.hb_model.specs.Whole.{IsWhole}
+use Rattle.hb_world.specs.First.{Holds, IsHeld, IsTrueTo, Stands, StillHolds}
+use Rattle.hb_world.proofs.StoreSteps.{IsWhole-counting, IsWhole-found, IsWhole-placed, IsWhole-stages}
 
 StillHolds-trans : (a b c : Contents) → StillHolds a b → StillHolds b c → StillHolds a c
 StillHolds-trans a b c x y = record {
   true_still = λ d h. y.true_still d (x.true_still d h);
   none_lapsing = λ e. y.none_lapsing (x.none_lapsing e);
   held_still = λ e d h. y.held_still (x.none_lapsing e) d (x.held_still e d h);
+  whole_still = λ rows n t h. y.whole_still rows n t (x.whole_still rows n t h);
 }
 
+pub StillHolds-same : (c : Contents) → StillHolds c c
+StillHolds-same c = record { true_still = λ d h. h; none_lapsing = λ e. e; held_still = λ e d h. h; whole_still = λ rows n t h. h }
+
 -- the same blobs and the same removals
-StillHolds-same : (c : Contents) → StillHolds c c
-StillHolds-same c = record { true_still = λ d h. h; none_lapsing = λ e. e; held_still = λ e d h. h }
+StillHolds-stages : (c : Contents) (stages : List StagedBytes) → StillHolds c (record c { stages = stages })
+StillHolds-stages c stages = record {
+  true_still = λ d h. h;
+  none_lapsing = λ e. e;
+  held_still = λ e d h. h;
+  whole_still = λ rows n t h. IsWhole-stages rows n c stages t h;
+}
 
 true_unless : (d : Digest) (b : Bool) (held : Option (List ℕ)) → IfSome held (λ bytes. digest_of bytes ≡ d) → IfSome (cond b None held) (λ bytes. digest_of bytes ≡ d)
 true_unless d true held h = tt
@@ -38,19 +50,20 @@ IsTrueTo-folded c (x ∷ xs) d h = IsTrueTo-folded (lapsed c x) xs d (IsTrueTo-l
 none_is_none : (c : Contents) (x : Digest) → IsLapsing c x → c.lapsing ≡ [] → ⊥
 none_is_none c x l e = let none : length c.lapsing ≡ 0 = ap length e in let some = l.1.1 in absurd (omega arith)
 
-StillHolds-folded : (c : Contents) (xs : List Digest) → AllByRecursion (IsLapsing c) xs → StillHolds c (fold lapsed c xs)
-StillHolds-folded c [] live = StillHolds-same c
-StillHolds-folded c (x ∷ xs) live = record {
-  true_still = IsTrueTo-folded c (x ∷ xs);
-  none_lapsing = λ e. absurd (none_is_none c x live.0 e);
-  held_still = λ e. absurd (none_is_none c x live.0 e);
-}
+none_lapses : (c : Contents) (xs : List Digest) → AllByRecursion (IsLapsing c) xs → c.lapsing ≡ [] → xs ≡ []
+none_lapses c [] live e = refl
+none_lapses c (x ∷ xs) live e = absurd (none_is_none c x live.0 e)
 
 -- what a call finds
 StillHolds-found : (c : Contents) (now : ℕ) (found : Contents) → Finds c now found → StillHolds c found
 StillHolds-found c now found finds =
-    let folded = StillHolds-folded c finds.digests finds.live in
-    subst (StillHolds c) (sym finds.is) (record { true_still = folded.true_still; none_lapsing = folded.none_lapsing; held_still = folded.held_still })
+    let none = none_lapses c finds.digests finds.live in
+    subst (StillHolds c) (sym finds.is) (record {
+      true_still = IsTrueTo-folded c finds.digests;
+      none_lapsing = λ e. subst (λ xs. (fold lapsed c xs).lapsing ≡ []) (sym (none e)) e;
+      held_still = λ e d h. subst (λ xs. IsHeld (fold lapsed c xs) d) (sym (none e)) h;
+      whole_still = λ rows n t h. subst (λ c. IsWhole rows n c t) finds.is (IsWhole-found rows n c found t now finds h);
+    })
 
 -- the bytes that were placed have their digest, and the others are as before
 IsTrueTo-holding : (c : Contents) (d q : Digest) (bytes : List ℕ) → digest_of bytes ≡ d → IsTrueTo c q → IsTrueTo (holding d bytes c) q
@@ -65,11 +78,20 @@ held_or : (b : Bool) (bytes : List ℕ) (held : Option (List ℕ)) → IsSome he
 held_or true bytes held h = refl
 held_or false bytes held h = h
 
-StillHolds-holding : (c : Contents) (d : Digest) (bytes : List ℕ) → digest_of bytes ≡ d → StillHolds c (holding d bytes c)
-StillHolds-holding c d bytes same = record {
+StillHolds-placed : (c : Contents) (d : Digest) (bytes : List ℕ) → digest_of bytes ≡ d → StillHolds c (holding d bytes (counting d bytes c))
+StillHolds-placed c d bytes same = record {
   true_still = λ q h. IsTrueTo-holding c d q bytes same h;
   none_lapsing = λ e. e;
   held_still = λ e q h. subst IsSome (sym (bytes_of-holding c d q bytes)) (held_or (is_eq (digest_cmp q d)) bytes (bytes_of c q) h);
+  whole_still = λ rows n t h. IsWhole-placed rows n t c d bytes same h;
+}
+
+StillHolds-counting : (c : Contents) (d : Digest) (bytes : List ℕ) → StillHolds c (counting d bytes c)
+StillHolds-counting c d bytes = record {
+  true_still = λ d h. h;
+  none_lapsing = λ e. e;
+  held_still = λ e d h. h;
+  whole_still = λ rows n t h. IsWhole-counting rows n t c d bytes h;
 }
 
 -- a call stands where its own effect does
@@ -80,30 +102,37 @@ Stands-becomes (Some c) now Effect (Some c') keeps becomes = StillHolds-trans c 
 
 -- Stages touch no blob.
 StillHolds-staging : {T : Type 0} (id keep : ℕ) (result : Result T StoreFault) (found c : Contents) → Staging id keep result found c → StillHolds found c
-StillHolds-staging id keep (Ok s) found c effect = subst (StillHolds found) (sym effect.1) (record { true_still = λ d h. h; none_lapsing = λ e. e; held_still = λ e d h. h })
-StillHolds-staging id keep (Err Failed) found c (true, is) = subst (StillHolds found) (sym is) (record { true_still = λ d h. h; none_lapsing = λ e. e; held_still = λ e d h. h })
+StillHolds-staging id keep (Ok s) found c effect = subst (StillHolds found) (sym effect.1) (StillHolds-stages found _)
+StillHolds-staging id keep (Err Failed) found c (true, is) = subst (StillHolds found) (sym is) (StillHolds-stages found _)
 StillHolds-staging id keep (Err Failed) found c (false, is) = subst (StillHolds found) (sym is) (StillHolds-same found)
 StillHolds-staging id keep (Err Memory) found c effect = subst (StillHolds found) (sym effect) (StillHolds-same found)
 
 pub Stands-staging : {T : Type 0} (old : Option Contents) (now id keep : ℕ) (result : Result T StoreFault) (new : Option Contents) → Becomes old now (Staging id keep result) new → Stands old new
 Stands-staging old now id keep result new = Stands-becomes old now (Staging id keep result) new (StillHolds-staging id keep result)
 
+StillHolds-unstaged : (id : ℕ) (c : Contents) → StillHolds c (unstaged id c)
+StillHolds-unstaged id c = StillHolds-stages c (unstaged id c).stages
+
 StillHolds-dropping : {T : Type 0} (id : ℕ) (result : Result T StoreFault) (found c : Contents) → Dropping id result found c → StillHolds found c
-StillHolds-dropping id (Ok s) found c effect = subst (StillHolds found) (sym effect) (record { true_still = λ d h. h; none_lapsing = λ e. e; held_still = λ e d h. h })
-StillHolds-dropping id (Err Failed) found c (true, is) = subst (StillHolds found) (sym is) (record { true_still = λ d h. h; none_lapsing = λ e. e; held_still = λ e d h. h })
+StillHolds-dropping id (Ok s) found c effect = subst (StillHolds found) (sym effect) (StillHolds-unstaged id found)
+StillHolds-dropping id (Err Failed) found c (true, is) = subst (StillHolds found) (sym is) (StillHolds-unstaged id found)
 StillHolds-dropping id (Err Failed) found c (false, is) = subst (StillHolds found) (sym is) (StillHolds-same found)
 StillHolds-dropping id (Err Memory) found c effect = subst (StillHolds found) (sym effect) (StillHolds-same found)
 
 pub Stands-dropping : {T : Type 0} (old : Option Contents) (now id : ℕ) (result : Result T StoreFault) (new : Option Contents) → Becomes old now (Dropping id result) new → Stands old new
 Stands-dropping old now id result new = Stands-becomes old now (Dropping id result) new (StillHolds-dropping id result)
 
+-- a content that stands, without a stage
+without_stage : (id : ℕ) (found c : Contents) → StillHolds found c → StillHolds found (unstaged id c)
+without_stage id found c h = StillHolds-trans found c (unstaged id c) h (StillHolds-unstaged id c)
+
 -- a content of the right digest is placed, and held where the call was acknowledged
 StillHolds-placing : {T : Type 0} (id : ℕ) (d : Digest) (bytes : List ℕ) (result : Result T StoreFault) (found c : Contents) → digest_of bytes ≡ d → Placing id (Some bytes) d result found c → StillHolds found c
-StillHolds-placing id d bytes (Ok s) found c same effect = let kept = StillHolds-holding found d bytes same in subst (StillHolds found) (sym effect) (record { true_still = kept.true_still; none_lapsing = kept.none_lapsing; held_still = kept.held_still })
-StillHolds-placing id d bytes (Err Failed) found c same (true, true, is) = let kept = StillHolds-holding found d bytes same in subst (StillHolds found) (sym is) (record { true_still = kept.true_still; none_lapsing = kept.none_lapsing; held_still = kept.held_still })
-StillHolds-placing id d bytes (Err Failed) found c same (true, false, is) = let kept = StillHolds-holding found d bytes same in subst (StillHolds found) (sym is) (record { true_still = kept.true_still; none_lapsing = kept.none_lapsing; held_still = kept.held_still })
-StillHolds-placing id d bytes (Err Failed) found c same (false, true, is) = subst (StillHolds found) (sym is) (record { true_still = λ d h. h; none_lapsing = λ e. e; held_still = λ e d h. h })
-StillHolds-placing id d bytes (Err Failed) found c same (false, false, is) = subst (StillHolds found) (sym is) (record { true_still = λ d h. h; none_lapsing = λ e. e; held_still = λ e d h. h })
+StillHolds-placing id d bytes (Ok s) found c same effect = subst (StillHolds found) (sym effect) (without_stage id found _ (StillHolds-placed found d bytes same))
+StillHolds-placing id d bytes (Err Failed) found c same (true, true, is) = subst (StillHolds found) (sym is) (without_stage id found _ (StillHolds-placed found d bytes same))
+StillHolds-placing id d bytes (Err Failed) found c same (true, false, is) = subst (StillHolds found) (sym is) (StillHolds-placed found d bytes same)
+StillHolds-placing id d bytes (Err Failed) found c same (false, true, is) = subst (StillHolds found) (sym is) (without_stage id found _ (StillHolds-counting found d bytes))
+StillHolds-placing id d bytes (Err Failed) found c same (false, false, is) = subst (StillHolds found) (sym is) (StillHolds-counting found d bytes)
 StillHolds-placing id d bytes (Err Memory) found c same effect = subst (StillHolds found) (sym effect) (StillHolds-same found)
 
 -- where the store tells its contents, the stage tells its bytes
