@@ -1,3 +1,5 @@
 pub mod Opening
 pub mod Standing
+pub mod ReadPages
+pub mod ReadTables
 pub mod StoreSteps

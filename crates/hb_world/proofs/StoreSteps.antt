@@ -1,6 +1,6 @@
 -- What a store's effects keep: a registry that fitted a store still fits it after time has passed, after a stage was
 -- made or dropped, and after a content was placed under its own digest, whatever the world remembers.
-use Rattle.std.proofs.Common.{◌≡◌, ◌<◌, ◌≤◌, ℕ, Bool, true, false, cond, List, [], ◌∷◌, length, Option, Some, None, Result, Ok, Err, IfSome, IsSomeAnd, IsTrue, option_map, refl, sym, ap, subst, ◌∙◌, fold, max, arith}
+use Rattle.std.proofs.Common.{◌≡◌, ◌<◌, ℕ, Bool, true, false, cond, List, [], ◌∷◌, length, Option, Some, None, IfSome, IsSomeAnd, IsTrue, option_map, refl, sym, ap, subst, ◌∙◌, fold, arith}
 use Rattle.std.specs.List.{filter, Contains, AllByRecursion}
 use Rattle.std.specs.declared.cmp.Ordering.{Ordering}
 use Rattle.std.specs.declared.cmp.Ordering.TheVariants.{Less, Equal, Greater}
@@ -18,15 +18,13 @@ use Rattle.hb_store.specs.declared.rows.HeldBlob.{HeldBlob}
 use Rattle.hb_store.specs.declared.rows.Lapsing.{Lapsing}
 use Rattle.hb_store.specs.declared.rows.Placed.{Placed}
 use Rattle.hb_store.specs.declared.rows.StagedBytes.{StagedBytes}
-use Rattle.hb_store.specs.declared.store.StoreFault.{StoreFault}
-use Rattle.hb_store.specs.declared.store.StoreFault.TheVariants.{Failed, Memory}
-use Rattle.hb_store.specs.Calls.{Dropping, Finds, Placing, Staging}
+use Rattle.hb_store.specs.Calls.{Finds}
 use Rattle.hb_store.specs.Contents.{Contents, IsLapsing, at_moment, bytes_of, counting, digest_cmp, held_in, held_key, holding, lapsed}
 use Rattle.hb_store.proofs.HeldBytes.{bytes_of-holding, bytes_of-lapsed, digest_cmp-equal}
 use Rattle.hb_model.specs.Replay.{replay}
 use Rattle.hb_model.specs.Registry.{stored_in}
 use Rattle.hb_model.specs.Sound.{HasLength, IsHeld, OneLength}
-use Rattle.hb_model.specs.Whole.{HaveLengths, IsKept, IsWhole, is_last_move}
+use Rattle.hb_model.specs.Whole.{IsKept, IsWhole, is_last_move}
 use Rattle.hb_model.proofs.EntrySteps.{All-weaker}
 
 -- ---- lists

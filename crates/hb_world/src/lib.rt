@@ -8,5 +8,7 @@
 #![tactic(auto)]
 
 pub mod first;
+mod reading;
+mod table_rows;
 #[cfg(test)]
 mod tests;
