@@ -1,2 +1,3 @@
 mod ExampleTurns
 mod ExampleVerdicts
+pub mod ProjectNames

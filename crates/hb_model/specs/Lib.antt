@@ -2,6 +2,7 @@ pub mod ArtifactChanges
 pub mod ArtifactEffects
 pub mod BatchExamples
 pub mod BlobEffects
+pub mod Built
 pub mod Changes
 pub mod CollectEffects
 pub mod CollectExamples
@@ -10,6 +11,7 @@ pub mod Effects
 pub mod ExampleColumns
 pub mod ExampleLogs
 pub mod ExampleNames
+pub mod Fit
 pub mod Grace
 pub mod History
 pub mod ImmutabilityExamples

@@ -15,7 +15,13 @@
 //! - [`laws`]: what holds of the definitions.
 #![tactic(auto)]
 
+pub mod changes;
+mod comparing;
 pub mod examples;
 pub mod laws;
+mod misfits;
+pub mod names;
+
+pub use misfits::Misfit;
 #[cfg(test)]
 mod tests;
