@@ -2,5 +2,9 @@ use Rattle.std.proofs.Common.{◌≡◌, ◌≤◌, take, length}
 use Rattle.hb_model.proofs.comparing.first_difference.Given as goal
 
 -- up to here the two are the same
-abbrev pub invariant-loop-1 : goal.invariant-loop-1
-invariant-loop-1 l = ?
+abbrev pub invariant-loop-place : goal.invariant-loop-place
+invariant-loop-place l = record {
+  same : take l.place l.rows ≡ take l.place l.others;
+  within : l.place ≤ length l.rows;
+  within_others : l.place ≤ length l.others;
+}
