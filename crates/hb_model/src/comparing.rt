@@ -3,9 +3,10 @@ ghost use Rattle.std.specs.Prelude.{◌≡◌, ◌↔◌, IsTrue, IfSome, IfNone
 ghost use Rattle.hb_model.specs.Fit.{DifferAt};
 
 use hb_records::{
-    Artifact, Assoc, Blob, Candidate, DigestList, ImmuteRule, JobRow, Project, RetainRule, Rules, Selector,
+    Artifact, Assoc, Blob, Candidate, ImmuteRule, JobRow, Project, RetainRule, Rules, Selector,
     SnapTag, TagRow, Upload,
 };
+use hb_text::Digest;
 
 /// Rows that can be compared whole.
 pub trait Same {
@@ -38,6 +39,12 @@ fn same_all<T: Same>(rows: &[T], others: &[T]) -> bool
     ensures { IsTrue result ↔ (rows.now ≡ others.now) }
 {
     first_difference(rows, others).is_none()
+}
+
+impl Same for Digest {
+    fn same(&self, other: &Digest) -> bool {
+        self == other
+    }
 }
 
 impl Same for Selector {
@@ -92,20 +99,14 @@ impl Same for Assoc {
     }
 }
 
-fn same_digests(digests: &DigestList, others: &DigestList) -> bool
-    ensures { IsTrue result ↔ (digests.now ≡ others.now) }
-{
-    digests.as_slice() == others.as_slice()
-}
-
 // Whether the manifests of two artifacts say the same.
 fn same_manifest(one: &Artifact, other: &Artifact) -> bool
     ensures { IsTrue result ↔ ((one.now.size ≡ other.now.size) × (one.now.media ≡ other.now.media) × (one.now.refs ≡ other.now.refs) × (one.now.children ≡ other.now.children)) }
 {
     one.size == other.size
         && one.media == other.media
-        && same_digests(&one.refs, &other.refs)
-        && same_digests(&one.children, &other.children)
+        && same_all(one.refs.as_slice(), other.refs.as_slice())
+        && same_all(one.children.as_slice(), other.children.as_slice())
 }
 
 impl Same for Artifact {

@@ -3,7 +3,7 @@ use Rattle.hb_model.proofs.comparing.first_difference.Given as goal
 
 -- up to here the two are the same
 abbrev pub invariant-loop-place : goal.invariant-loop-place
-invariant-loop-place l = record {
+invariant-loop-place g l = record {
   same : take l.place l.rows ≡ take l.place l.others;
   within : l.place ≤ length l.rows;
   within_others : l.place ≤ length l.others;
