@@ -1,3 +1,13 @@
+mod ArtifactBatches
+pub mod Batches
+pub mod BlobRows
+mod CollectBatches
+mod ContentBatches
 mod ExampleTurns
 mod ExampleVerdicts
 pub mod ProjectNames
+mod Remaking
+mod RetainBatches
+pub mod SeenRows
+mod Tables
+pub mod UsedBound

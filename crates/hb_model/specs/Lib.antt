@@ -2,6 +2,7 @@ pub mod ArtifactChanges
 pub mod ArtifactEffects
 pub mod BatchExamples
 pub mod BlobEffects
+pub mod BlobRows
 pub mod Built
 pub mod Changes
 pub mod CollectEffects
@@ -26,11 +27,13 @@ pub mod LegalProjects
 pub mod LegalRetain
 pub mod MountExamples
 pub mod Moves
+pub mod Numbered
 pub mod Presence
 pub mod ProjectEffects
 pub mod QuotaExamples
 pub mod Registry
 pub mod Replay
+pub mod Remaking
 pub mod RetainEffects
 pub mod RetainExamples
 pub mod Seen
@@ -38,5 +41,6 @@ pub mod Snapshots
 pub mod Sound
 pub mod TagExamples
 pub mod UploadExamples
+pub mod UsedBound
 pub mod Whole
 pub mod Words

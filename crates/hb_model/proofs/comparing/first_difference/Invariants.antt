@@ -1,4 +1,4 @@
-use Rattle.std.proofs.Common.{◌≡◌, ◌≤◌, take, length}
+use Rattle.std.proofs.Common.{◌≡◌, ◌≤◌, ◌-◌, take, length}
 use Rattle.hb_model.proofs.comparing.first_difference.Given as goal
 
 -- up to here the two are the same
@@ -8,3 +8,6 @@ invariant-loop-place g l = record {
   within : l.place ≤ length l.rows;
   within_others : l.place ≤ length l.others;
 }
+
+abbrev pub decreases-loop-place : goal.decreases-loop-place
+decreases-loop-place g l = length l.rows - l.place
