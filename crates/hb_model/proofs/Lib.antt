@@ -3,6 +3,7 @@ pub mod Batches
 pub mod BlobRows
 mod CollectBatches
 mod ContentBatches
+pub mod EntrySteps
 mod ExampleTurns
 mod ExampleVerdicts
 pub mod ProjectNames
@@ -11,3 +12,4 @@ mod RetainBatches
 pub mod SeenRows
 mod Tables
 pub mod UsedBound
+pub mod WholeSteps
