@@ -1,7 +1,5 @@
-ghost use Rattle.std.specs.Prelude.{◌≡◌, true, reverse, IfOk, IfSome, IfNone};
+ghost use Rattle.std.specs.Prelude.{◌≡◌, ◌<◌, true, reverse, IfOk, IfSome, IfNone};
 ghost use Rattle.std.specs.List.{AllByRecursion};
-ghost use Rattle.std.specs.Ordering.{nat_cmp};
-ghost use Rattle.std.specs.declared.cmp.Ordering.TheVariants.{Greater};
 ghost use Rattle.hb_rows.specs.Tables.{entries};
 ghost use Rattle.hb_model.specs.Built.{is_built, HasRoom};
 ghost use Rattle.hb_model.specs.Effects.{after_entry};
@@ -37,7 +35,7 @@ fn added_by(kind: &EntryKind) -> u64
 // Makes the changes of the entry, the newest, and adds it. It answers whether the entry's kind is built.
 fn add_entry(alloc: Global, made: &mut Rows, entry: &Entry) -> Result<bool, Memory>
     requires room { HasRoom made.old entry.now.kind }
-    requires newest { AllByRecursion (λ x. nat_cmp entry.now.number x.number ≡ Greater) made.old.audit }
+    requires newest { AllByRecursion (λ x. x.number < entry.now.number) made.old.audit }
     ensures built { IfOk result (λ b. b ≡ is_built entry.now.kind) }
     ensures made { IfOk result (λ b. b ≡ true → made.new ≡ after_entry made.old entry.now) }
 {
