@@ -1,0 +1,3 @@
+mod NamedGrace
+mod PairSteps
+mod Settled
