@@ -1,2 +1,5 @@
+mod BlobRows
 mod ExampleTurns
 mod ExampleVerdicts
+mod SeenRows
+mod Tables

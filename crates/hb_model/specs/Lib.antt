@@ -2,6 +2,7 @@ pub mod ArtifactChanges
 pub mod ArtifactEffects
 pub mod BatchExamples
 pub mod BlobEffects
+pub mod BlobRows
 pub mod Changes
 pub mod CollectEffects
 pub mod CollectExamples

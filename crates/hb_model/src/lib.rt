@@ -9,7 +9,8 @@
 //!   what a project uses and needs, and when something may go.
 //! - `specs/History`, `specs/Legal..`, `specs/Jobs`, `specs/Snapshots`: which entry may follow an audit.
 //! - `specs/Effects` and the effects by theme: what an entry does to the rows. `specs/Changes` and the changes by
-//!   theme: the same as a batch. `specs/Seen`: what clients see of rows.
+//!   theme: the same as a batch. `specs/Seen`: what clients see of rows. `specs/BlobRows`: what becomes of the row of
+//!   one digest.
 //! - `specs/Sound`, `specs/Whole`: what is promised of stored bytes, and what every event keeps.
 //! - [`examples`]: what all of them come to in worked logs, and which entries are legal there.
 //! - [`laws`]: what holds of the definitions.
