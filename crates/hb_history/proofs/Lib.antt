@@ -1,3 +1,6 @@
+mod FoundRows
 mod NamedGrace
 mod PairSteps
 mod Settled
+mod Sizes
+mod WholeSound

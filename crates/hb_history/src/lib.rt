@@ -8,4 +8,4 @@
 
 pub mod grace;
 pub mod presence;
-//pub mod soundness;
+pub mod soundness;

@@ -1,5 +1,5 @@
-mod BlobRows
+pub mod BlobRows
 mod ExampleTurns
 mod ExampleVerdicts
-mod SeenRows
+pub mod SeenRows
 mod Tables
