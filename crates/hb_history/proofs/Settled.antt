@@ -194,11 +194,11 @@ named-pair j t (Touched project digest) d legal e = (project, subst (λ z. IsSom
 named-pair j t (ArtifactPut name digest size media refs children tag) d legal e = (project_of name, of-all d (λ ref. IsSome (pair_in (replay j) (project_of name) ref)) refs legal.has_refs e)
 named-pair j t _ d legal e = cc
 
--- what is named isn't taken or collected
-touch-leaves : (d : Digest) (kind : EntryKind) → touches d kind ≡ true → (takes_digest d kind ≡ false) × (collects d kind ≡ false)
-touch-leaves d (Touched project digest) e = (refl, refl)
-touch-leaves d (ArtifactPut name digest size media refs children tag) e = (refl, refl)
-touch-leaves d _ e = cc
+-- what is named isn't marked, taken or collected
+pub named-unmoved : (d : Digest) (kind : EntryKind) → touches d kind ≡ true → Unmoved d kind
+named-unmoved d (Touched project digest) e = record { untaken = refl; uncollected = refl; unmarked = refl }
+named-unmoved d (ArtifactPut name digest size media refs children tag) e = record { untaken = refl; uncollected = refl; unmarked = refl }
+named-unmoved d _ e = cc
 
 -- ---- the law
 -- the last move is the entry, where it stores or names the digest
@@ -215,8 +215,8 @@ settled-step j e legal before p d there =
       | false ↦ λ s. elim (touches d e.kind) as (λ b. touches d e.kind ≡ b → Settled (e ∷ j) d) [
         | true ↦ λ t.
             let known = named-pair j e.moment e.kind d legal.kind t in
-            let leaves = touch-leaves d e.kind t in
-            record { last = last-here j e d (or_right (stores d e.kind) (touches d e.kind) t); here = present-same j e d s leaves.0 leaves.1 ∙ (before known.0 d known.1).here }
+            let u = named-unmoved d e.kind t in
+            record { last = last-here j e d (or_right (stores d e.kind) (touches d e.kind) t); here = present-same j e d s u.untaken u.uncollected ∙ (before known.0 d known.1).here }
         | false ↦ λ t.
             let old = pair-before p d e.kind (pair_in (replay j) p d) s (subst IsSome (pair-step p d e.number e.moment e.kind (replay j)) there) in
             let h = before p d old in
