@@ -1,8 +1,11 @@
+mod Additions
 mod FoundRows
 mod IdleRows
 mod NamedGrace
 mod PairSteps
+mod PairTables
 mod PresentRows
 mod Settled
 mod Sizes
+mod UsedRows
 mod WholeSound

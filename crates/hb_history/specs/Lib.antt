@@ -1,1 +1,2 @@
 pub mod PresentRows
+pub mod UsedRows

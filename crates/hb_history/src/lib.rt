@@ -1,11 +1,13 @@
 //! What holds of every legal audit. Each function does nothing: its contract is a law of `History`, the
 //! audits that hb_model calls legal, for who decides by rows or promises something to clients.
 //!
-//! - [`presence`]: what a project has is present.
-//! - [`grace`]: what is named has its grace.
-//! - [`soundness`]: the sizes of pairs are those that are stored.
+//! - [`usage`]: what a project uses, and its limit.
+//! - [`presence`]: what the store holds, by the rows of digests, and that it holds what a project has.
+//! - [`grace`]: what is named stays for the window.
+//! - [`soundness`]: what every event keeps makes the promise about stored bytes.
 #![tactic(auto)]
 
 pub mod grace;
 pub mod presence;
 pub mod soundness;
+pub mod usage;
