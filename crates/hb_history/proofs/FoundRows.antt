@@ -1,6 +1,6 @@
 -- What is found in tables whose keys rise.
-use Rattle.std.proofs.Common.{◌≡◌, true, false, cond, List, [], ◌∷◌, Some, None, refl, ap, ◌∙◌}
-use Rattle.std.specs.List.{AllByRecursion}
+use Rattle.std.proofs.Common.{◌≡◌, Bool, true, false, cond, List, [], ◌∷◌, Some, None, refl, sym, ap, ◌∙◌}
+use Rattle.std.specs.List.{filter, AllByRecursion}
 use Rattle.std.specs.declared.cmp.Ordering.{Ordering}
 use Rattle.std.specs.Ordering.{is_eq}
 use Rattle.std.specs.Cmp.{IsTotalOrder}
@@ -24,3 +24,18 @@ module _ {Row K : Type 0} {compare : K → K → Ordering} (o : IsTotalOrder com
             | true ↦ λ t. let none = gone_behind (key later) row rows h t in cc
             | false ↦ λ t. e
           ] refl
+
+  -- what is found among the rows that pass is found among all
+  pub found_passing : (q : K) (test : Row → Bool) (rows : List Row) → Rises compare key rows → (row : Row) → row_at compare key q (filter test rows) ≡ Some row → row_at compare key q rows ≡ Some row
+  found_passing q test [] h row e = e
+  found_passing q test (first ∷ rows) h row e =
+      elim (is_eq (compare q (key first))) as (λ b. is_eq (compare q (key first)) ≡ b → cond b (Some first) (row_at compare key q rows) ≡ Some row) [
+        | true ↦ λ t. elim (test first) as (λ c. row_at compare key q (cond c (first ∷ filter test rows) (filter test rows)) ≡ Some row → Some first ≡ Some row) [
+          | true ↦ λ f. ap (λ b. cond b (Some first) (row_at compare key q (filter test rows))) (sym t) ∙ f
+          | false ↦ λ f. let later = found_passing q test rows h.1 row f in let none = gone_behind q first rows h t in cc
+        ] e
+        | false ↦ λ t. elim (test first) as (λ c. row_at compare key q (cond c (first ∷ filter test rows) (filter test rows)) ≡ Some row → row_at compare key q rows ≡ Some row) [
+          | true ↦ λ f. found_passing q test rows h.1 row (ap (λ b. cond b (Some first) (row_at compare key q (filter test rows))) (sym t) ∙ f)
+          | false ↦ λ f. found_passing q test rows h.1 row f
+        ] e
+      ] refl

@@ -8,4 +8,6 @@ mod PresentRows
 mod Settled
 mod Sizes
 mod UsedRows
+mod VersionMoves
+mod VersionSteps
 mod WholeSound

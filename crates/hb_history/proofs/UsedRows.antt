@@ -56,7 +56,7 @@ counts-made row none ps xs absent h q =
     ] refl
 
 -- ---- pairs
-used_keeps : (n : ℕ) (f : ℕ → ℕ) (r : Project) → (with_used n f r).name ≡ r.name
+pub used_keeps : (n : ℕ) (f : ℕ → ℕ) (r : Project) → (with_used n f r).name ≡ r.name
 used_keeps n f r = elim (nat_eq (f r.used) r.used) as (λ b. (cond b r (record r { used = f r.used; version = n })).name ≡ r.name) [ true ↦ refl | false ↦ refl ]
 
 used-with_used : (n : ℕ) (f : ℕ → ℕ) (r : Project) → (with_used n f r).used ≡ f r.used

@@ -3,6 +3,7 @@
 //!
 //! - [`usage`]: what a project uses, and its limit.
 //! - [`presence`]: what the store holds, by the rows of digests, and that it holds what a project has.
+//! - [`versions`]: a row that has the version that it had is the row as it was.
 //! - [`grace`]: what is named stays for the window.
 //! - [`soundness`]: what every event keeps makes the promise about stored bytes.
 #![tactic(auto)]
@@ -11,3 +12,4 @@ pub mod grace;
 pub mod presence;
 pub mod soundness;
 pub mod usage;
+pub mod versions;
