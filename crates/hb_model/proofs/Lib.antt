@@ -1,5 +1,11 @@
+mod ArtifactBatches
+pub mod Batches
 pub mod BlobRows
+mod CollectBatches
+pub mod ContentBatches
 mod ExampleTurns
 mod ExampleVerdicts
+mod RetainBatches
 pub mod SeenRows
 mod Tables
+pub mod UsedBound

@@ -25,6 +25,7 @@ pub mod LegalProjects
 pub mod LegalRetain
 pub mod MountExamples
 pub mod Moves
+pub mod Numbered
 pub mod Presence
 pub mod ProjectEffects
 pub mod QuotaExamples
@@ -37,5 +38,6 @@ pub mod Snapshots
 pub mod Sound
 pub mod TagExamples
 pub mod UploadExamples
+pub mod UsedBound
 pub mod Whole
 pub mod Words

@@ -1,4 +1,4 @@
 mod ChangeOrder
-mod KeysRise
+pub mod KeysRise
 mod PageRows
 mod Room
