@@ -17,7 +17,7 @@ use Rattle.hb_records.specs.declared.entries.EntryKind.TheVariants.{Associated, 
 use Rattle.hb_records.specs.declared.jobs.Verdict.TheVariants as verdict
 use Rattle.hb_records.specs.Orders.{named_digest_cmp}
 use Rattle.hb_model.specs.Words.{same_digest, among, some_and, has_kind, last_kind, since_kind}
-use Rattle.hb_model.specs.Registry.{PairItem, pair_key, pair_in, stored_in}
+use Rattle.hb_model.specs.Registry.{StoredItem, PairItem, pair_key, pair_in, stored_in}
 use Rattle.hb_model.specs.Replay.{replay}
 use Rattle.hb_model.specs.Moves.{stores, takes_digest, collects, touches, marks, moves}
 use Rattle.hb_model.specs.Presence.{present}
@@ -64,16 +64,13 @@ pub record Settled (j : List AuditEntry) (d : Digest) : Type 0 where
   pub here : present j d ≡ true
 
 -- ---- present after one more entry
-taken_after : Digest → EntryKind → Bool → Bool
-taken_after d kind taken = cond (stores d kind) false (takes_digest d kind || taken)
-
-stored-some : (d : Digest) (kind : EntryKind) (x : Option _) → stores d kind ≡ true → is_some (stored_after d kind x) ≡ true
+stored-some : (d : Digest) (kind : EntryKind) (x : Option StoredItem) → stores d kind ≡ true → is_some (stored_after d kind x) ≡ true
 stored-some d (Associated project digest size) x e = ap (λ b. is_some (cond b (Some (stored_item digest size)) x)) e
 stored-some d (ArtifactPut name digest size media refs children tag) x e = ap (λ b. is_some (cond b (Some (stored_item digest size)) x)) e
 stored-some d (Adopted job digest size) x e = ap (λ b. is_some (cond b (Some (stored_item digest size)) x)) e
 stored-some d _ x e = cc
 
-stored-same : (d : Digest) (kind : EntryKind) (x : Option _) → stores d kind ≡ false → collects d kind ≡ false → stored_after d kind x ≡ x
+stored-same : (d : Digest) (kind : EntryKind) (x : Option StoredItem) → stores d kind ≡ false → collects d kind ≡ false → stored_after d kind x ≡ x
 stored-same d (Associated project digest size) x e f = ap (λ b. cond b (Some (stored_item digest size)) x) e
 stored-same d (ArtifactPut name digest size media refs children tag) x e f = ap (λ b. cond b (Some (stored_item digest size)) x) e
 stored-same d (Adopted job digest size) x e f = ap (λ b. cond b (Some (stored_item digest size)) x) e

@@ -28,6 +28,7 @@ use Rattle.hb_model.specs.ProjectEffects.{new_project, with_used}
 use Rattle.hb_model.specs.Registry.{PairItem, pair_key, pair_in, project_in, project_name}
 use Rattle.hb_model.specs.Replay.{pairs_with, replay, step}
 use Rattle.hb_model.specs.Seen.{seen_pair, seen_project}
+use Rattle.hb_model.proofs.ContentBatches.{used-name}
 use Rattle.hb_model.proofs.SeenRows.{seen-rows}
 use Rattle.hb_history.specs.UsedRows.{used_in}
 use Rattle.hb_history.proofs.PairSteps.{pair_item}
@@ -56,9 +57,6 @@ counts-made row none ps xs absent h q =
     ] refl
 
 -- ---- pairs
-pub used_keeps : (n : ℕ) (f : ℕ → ℕ) (r : Project) → (with_used n f r).name ≡ r.name
-used_keeps n f r = elim (nat_eq (f r.used) r.used) as (λ b. (cond b r (record r { used = f r.used; version = n })).name ≡ r.name) [ true ↦ refl | false ↦ refl ]
-
 used-with_used : (n : ℕ) (f : ℕ → ℕ) (r : Project) → (with_used n f r).used ≡ f r.used
 used-with_used n f r = elim (nat_eq (f r.used) r.used) as (λ b. nat_eq (f r.used) r.used ≡ b → (cond b r (record r { used = f r.used; version = n })).used ≡ f r.used) [ true ↦ λ e. grind (arith, nat_tests) | false ↦ λ e. refl ] refl
 
@@ -70,7 +68,7 @@ used-more false n s x known = omega arith
 -- what a pair's row says of the pair: x is the row of the pair of p and d
 counts-associated : (n : ℕ) (p : List ℕ) (d : Digest) (s : ℕ) (x : Option Assoc) (ps : List Project) (xs : List PairItem) → row_at named_digest_cmp pair_key (p, d) xs ≡ option_map seen_pair x → IsSome (row_at text_cmp project_key p ps) → Counts ps xs → Counts (projects_with n p s x ps) (pairs_with p d s (option_map seen_pair x) xs)
 counts-associated n p d s None ps xs absent known h q =
-    ap used_in (row_at-changed text_cmp-order.total project_key q p (with_used n (λ used. used + s)) (used_keeps n (λ used. used + s)) ps)
+    ap used_in (row_at-changed text_cmp-order.total project_key q p (with_used n (λ used. used + s)) (used-name n (λ used. used + s)) ps)
     ∙ used-more (is_eq (text_cmp q p)) n s (row_at text_cmp project_key q ps) (λ e. subst IsSome (sym (row_at-tied text_cmp-order.total project_key q p (equal_from _ e) ps)) known)
     ∙ ap (λ old. weight q (pair_item p d s) + old) (h q)
     ∙ sym (sum-with_new named_digest_cmp-order.total pair_key (weight q) (pair_item p d s) xs absent)
@@ -91,7 +89,7 @@ counts-unassociated n p d None ps xs rise absent h q = h q ∙ ap (sum_by (weigh
 counts-unassociated n p d (Some r) ps xs rise there h q =
     let own : is_eq (text_cmp q p) ≡ is_eq (text_cmp q r.project) = ap is_eq (alike_right text_cmp-order.total p r.project q (then_first (text_cmp p r.project) (digest_cmp d r.digest) (found_key named_digest_cmp-order.total pair_key (p, d) (seen_pair r) xs there))) in
     let less : cond (is_eq (text_cmp q p)) r.size 0 ≡ weight q (seen_pair r) = ap (λ b. cond b r.size 0) own in
-    ap used_in (row_at-changed text_cmp-order.total project_key q p (with_used n (λ used. used - r.size)) (used_keeps n (λ used. used - r.size)) ps)
+    ap used_in (row_at-changed text_cmp-order.total project_key q p (with_used n (λ used. used - r.size)) (used-name n (λ used. used - r.size)) ps)
     ∙ used-less (is_eq (text_cmp q p)) n r.size (sum_by (weight q) (without_key named_digest_cmp pair_key (p, d) xs)) (row_at text_cmp project_key q ps) (omega (arith, less, h q, sum-without named_digest_cmp-order.total pair_key (weight q) (p, d) (seen_pair r) xs rise there))
 
 -- ---- legal entries

@@ -35,16 +35,16 @@ module _ {Row : Type 0} (version : Row → ℕ) where
   pub moved-then : (n : ℕ) (x y z : Option Row) → Moved n x y → Moved n y z → Moved n x z
   moved-then n x y z g h row f = ⊎_elim (λ (old : y ≡ Some row). g row old) (λ (new : version row ≡ n). inr new) (h row f)
 
-  -- What is looked up after each audit: there is nothing at the start, and each entry moves it.
-  module _ (look : List AuditEntry → Option Row) (start : look [] ≡ None) (step : (e : AuditEntry) (j : List AuditEntry) → Moved e.number (look j) (look (e ∷ j))) where
+  -- What is looked up after each legal audit: there is nothing at the start, and each entry moves it.
+  module _ (look : List AuditEntry → Option Row) (start : look [] ≡ None) (step : (e : AuditEntry) (j : List AuditEntry) → History j → Moved e.number (look j) (look (e ∷ j))) where
     bounded : (j : List AuditEntry) → History j → (row : Row) → look j ≡ Some row → version row ≤ length j
     bounded [] legal row f = let none = sym start ∙ f in cc
-    bounded (e ∷ j) legal row f = ⊎_elim (λ (old : look j ≡ Some row). omega (arith, bounded j legal.1 row old)) (λ (new : version row ≡ e.number). omega (arith, new, legal.0.numbered)) (step e j row f)
+    bounded (e ∷ j) legal row f = ⊎_elim (λ (old : look j ≡ Some row). omega (arith, bounded j legal.1 row old)) (λ (new : version row ≡ e.number). omega (arith, new, legal.0.numbered)) (step e j legal.1 row f)
 
     -- a row that an audit has when it has gone on is one from before, or is newer than all of before
     since : (newer j : List AuditEntry) → History (newer ++ j) → (row : Row) → look (newer ++ j) ≡ Some row → (look j ≡ Some row) ⊎ (length j < version row)
     since [] j legal row f = inl f
-    since (e ∷ newer) j legal row f = ⊎_elim (λ (old : look (newer ++ j) ≡ Some row). since newer j legal.1 row old) (λ (new : version row ≡ e.number). inr (omega (arith, new, legal.0.numbered, length-append newer j))) (step e (newer ++ j) row f)
+    since (e ∷ newer) j legal row f = ⊎_elim (λ (old : look (newer ++ j) ≡ Some row). since newer j legal.1 row old) (λ (new : version row ≡ e.number). inr (omega (arith, new, legal.0.numbered, length-append newer j))) (step e (newer ++ j) legal.1 row f)
 
     history-before : (newer j : List AuditEntry) → History (newer ++ j) → History j
     history-before [] j legal = legal

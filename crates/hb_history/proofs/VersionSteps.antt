@@ -1,13 +1,12 @@
 -- What each entry changes in the six tables whose rows have a version, row by row.
-use Rattle.std.proofs.Common.{◌≡◌, ◌+◌, ◌-◌, ℕ, true, false, not, cond, List, [], ◌∷◌, Option, Some, None, refl, ◌⊎◌, inl, inr, nat_eq}
+use Rattle.std.proofs.Common.{◌≡◌, ◌+◌, ◌-◌, ℕ, true, false, not, cond, List, Option, Some, None, refl, ◌⊎◌, inl, inr, nat_eq}
 use Rattle.std.specs.Ordering.{is_eq, nat_cmp}
 use Rattle.hb_base.specs.Tables.{Rises, row_at, without_key, changed_at}
-use Rattle.hb_base.proofs.TableLaws.{row_at-with, row_at-without, row_at-changed, Rises-with, Rises-without, Rises-filter}
+use Rattle.hb_base.proofs.TableLaws.{row_at-with, row_at-without, row_at-changed}
 use Rattle.hb_text.specs.declared.digests.Digest.{Digest}
 use Rattle.hb_text.specs.Names.{project_of}
 use Rattle.hb_text.specs.Orders.{text_cmp}
 use Rattle.hb_text.proofs.KeyOrders.{text_cmp-order}
-use Rattle.hb_records.specs.Entries.{AuditEntry}
 use Rattle.hb_records.specs.Orders.{NamedDigest, NamedTag, named_digest_cmp, named_tag_cmp, project_key, artifact_key, tag_key, upload_key, job_key}
 use Rattle.hb_records.proofs.KeyOrders.{nat_cmp-order, named_digest_cmp-order, named_tag_cmp-order}
 use Rattle.hb_records.specs.declared.entries.EntryKind.{EntryKind}
@@ -30,10 +29,11 @@ use Rattle.hb_model.specs.JobEffects.{claimed_phase}
 use Rattle.hb_model.specs.ProjectEffects.{new_project, with_used}
 use Rattle.hb_model.specs.RetainEffects.{is_drop}
 use Rattle.hb_model.specs.Words.{same_digest, among}
+use Rattle.hb_model.proofs.Batches.{rows-tables, history-numbered}
 use Rattle.hb_model.proofs.BlobRows.{blob_at-after}
+use Rattle.hb_model.proofs.ContentBatches.{used-name}
 use Rattle.hb_history.specs.Versions.{VersionsNeverComeBack}
 use Rattle.hb_history.proofs.FoundRows.{found_passing}
-use Rattle.hb_history.proofs.UsedRows.{used_keeps}
 use Rattle.hb_history.proofs.VersionMoves.{Moved, moved-same, moved-set, moved-changed, moved-dropped, moved-found, moved-then, same-version}
 
 -- ---- projects
@@ -47,12 +47,12 @@ project-changed : (n : ℕ) (key p : List ℕ) (f : Project → Project) → ((r
 project-changed n key p f keeps moves t = moved-found project_version n _ _ _ (row_at-changed text_cmp-order.total project_key key p f keeps t.projects) (moved-changed project_version n (is_eq (text_cmp key p)) f (project_at t key) moves)
 
 project-more : (n : ℕ) (key p : List ℕ) (s : ℕ) (x : Option Assoc) (t : Tables) → Moved project_version n (project_at t key) (row_at text_cmp project_key key (projects_with n p s x t.projects))
-project-more n key p s None t = project-changed n key p (with_used n (λ used. used + s)) (used_keeps n (λ used. used + s)) (used-moves n (λ used. used + s)) t
+project-more n key p s None t = project-changed n key p (with_used n (λ used. used + s)) (used-name n (λ used. used + s)) (used-moves n (λ used. used + s)) t
 project-more n key p s (Some row) t = moved-same project_version n (project_at t key)
 
 project-less : (n : ℕ) (key p : List ℕ) (x : Option Assoc) (t : Tables) → Moved project_version n (project_at t key) (row_at text_cmp project_key key (projects_without n p x t.projects))
 project-less n key p None t = moved-same project_version n (project_at t key)
-project-less n key p (Some row) t = project-changed n key p (with_used n (λ used. used - row.size)) (used_keeps n (λ used. used - row.size)) (used-moves n (λ used. used - row.size)) t
+project-less n key p (Some row) t = project-changed n key p (with_used n (λ used. used - row.size)) (used-name n (λ used. used - row.size)) (used-moves n (λ used. used - row.size)) t
 
 project-moved : (key : List ℕ) (n moment : ℕ) (kind : EntryKind) (t : Tables) → Moved project_version n (project_at t key) (project_at (effect n moment kind t) key)
 project-moved key n moment (ProjectMade project limit) t = moved-found project_version n _ _ _ (row_at-with text_cmp-order.total project_key key (new_project n project limit) t.projects) (moved-set project_version n (is_eq (text_cmp key project)) (new_project n project limit) (project_at t key) refl)
@@ -107,21 +107,6 @@ tag_version row = row.version
 abbrev tag_by : Tables → NamedTag → Option TagRow
 tag_by t key = tag_at t key.0 key.1
 
-rises-tagged : (n moment : ℕ) (name : List ℕ) (digest : Digest) (tag : Option (List ℕ)) (rows : List TagRow) → Rises named_tag_cmp tag_key rows → Rises named_tag_cmp tag_key (tags_with n moment name digest tag rows)
-rises-tagged n moment name digest None rows h = h
-rises-tagged n moment name digest (Some tag) rows h = Rises-with named_tag_cmp-order.total tag_key _ rows h
-
-tags-rise-after : (n moment : ℕ) (kind : EntryKind) (t : Tables) → Rises named_tag_cmp tag_key t.tags → Rises named_tag_cmp tag_key (effect n moment kind t).tags
-tags-rise-after n moment (ArtifactPut name digest size media refs children tag) t h = rises-tagged n moment name digest tag t.tags h
-tags-rise-after n moment (ArtifactDropped job name digest) t h = Rises-filter named_tag_cmp-order.total tag_key (λ row. not (names_artifact name digest row)) t.tags h
-tags-rise-after n moment (TagDropped name tag) t h = Rises-without named_tag_cmp-order.total tag_key (name, tag) t.tags h
-tags-rise-after n moment (RetainTurn job name tag given) t h = elim (is_drop given) as (λ b. Rises named_tag_cmp tag_key (cond b (without_key named_tag_cmp tag_key (name, tag) t.tags) t.tags)) [ true ↦ Rises-without named_tag_cmp-order.total tag_key (name, tag) t.tags h | false ↦ h ]
-tags-rise-after n moment _ t h = h
-
-tags-rise : (j : List AuditEntry) → Rises named_tag_cmp tag_key (rows_of j).tags
-tags-rise [] = tt
-tags-rise (e ∷ j) = tags-rise-after e.number e.moment e.kind (rows_of j) (tags-rise j)
-
 tag-put : (n moment : ℕ) (name : List ℕ) (digest : Digest) (tag : Option (List ℕ)) (t : Tables) (key : NamedTag) → Moved tag_version n (tag_by t key) (row_at named_tag_cmp tag_key key (tags_with n moment name digest tag t.tags))
 tag-put n moment name digest None t key = moved-same tag_version n (tag_by t key)
 tag-put n moment name digest (Some tag) t key =
@@ -173,10 +158,10 @@ job-moved id n moment _ t = moved-same job_version n (job_at t id)
 -- ---- the law
 pub versions-rest : VersionsNeverComeBack
 versions-rest = record {
-  projects = λ newer j legal key. same-version project_version (λ j. project_at (rows_of j) key) refl (λ e j. project-moved key e.number e.moment e.kind (rows_of j)) newer j legal;
-  blobs = λ newer j legal key. same-version blob_version (λ j. blob_at (rows_of j) key) refl (λ e j. moved-found blob_version e.number _ _ _ (blob_at-after key (rows_of j) e.number e.moment e.kind) (blob-moved key e.number e.moment e.kind (blob_at (rows_of j) key))) newer j legal;
-  artifacts = λ newer j legal key. same-version artifact_version (λ j. artifact_by (rows_of j) key) refl (λ e j. artifact-moved key e.number e.moment e.kind (rows_of j)) newer j legal;
-  tags = λ newer j legal key. same-version tag_version (λ j. tag_by (rows_of j) key) refl (λ e j. tag-moved key e.number e.moment e.kind (rows_of j) (tags-rise j)) newer j legal;
-  uploads = λ newer j legal key. same-version upload_version (λ j. upload_at (rows_of j) key) refl (λ e j. upload-moved key e.number e.moment e.kind (rows_of j)) newer j legal;
-  jobs = λ newer j legal key. same-version job_version (λ j. job_at (rows_of j) key) refl (λ e j. job-moved key e.number e.moment e.kind (rows_of j)) newer j legal;
+  projects = λ newer j legal key. same-version project_version (λ j. project_at (rows_of j) key) refl (λ e j old. project-moved key e.number e.moment e.kind (rows_of j)) newer j legal;
+  blobs = λ newer j legal key. same-version blob_version (λ j. blob_at (rows_of j) key) refl (λ e j old. moved-found blob_version e.number _ _ _ (blob_at-after key (rows_of j) e.number e.moment e.kind) (blob-moved key e.number e.moment e.kind (blob_at (rows_of j) key))) newer j legal;
+  artifacts = λ newer j legal key. same-version artifact_version (λ j. artifact_by (rows_of j) key) refl (λ e j old. artifact-moved key e.number e.moment e.kind (rows_of j)) newer j legal;
+  tags = λ newer j legal key. same-version tag_version (λ j. tag_by (rows_of j) key) refl (λ e j old. tag-moved key e.number e.moment e.kind (rows_of j) (rows-tables j (history-numbered j old)).tags) newer j legal;
+  uploads = λ newer j legal key. same-version upload_version (λ j. upload_at (rows_of j) key) refl (λ e j old. upload-moved key e.number e.moment e.kind (rows_of j)) newer j legal;
+  jobs = λ newer j legal key. same-version job_version (λ j. job_at (rows_of j) key) refl (λ e j old. job-moved key e.number e.moment e.kind (rows_of j)) newer j legal;
 }

@@ -19,7 +19,7 @@ pub fn the_row_tells_what_is_present()
         → present j d ≡ is_here (blob_at (rows_of j) d) }
 {}
 
-/// What a project has is present: no collection took it since it was last stored, so the store holds it.
+/// What a project has is present: it is stored, and no collection took it since it was last stored.
 pub fn what_a_project_has_is_present()
     ensures { (j : List AuditEntry) → History j → (p : List ℕ) (d : Digest)
         → IsSome (pair_in (replay j) p d) → IsTrue (present j d) }
@@ -32,7 +32,8 @@ pub fn what_a_project_has_is_idle()
         → IsSomeAnd (blob_at (rows_of j) d) (λ row. row.status ≡ Idle) }
 {}
 
-/// A touch meets an idle row, and never one that is marked or being removed: what an entry touches, a project has.
+/// A touch meets an idle row, and never one that is marked or being removed: what an entry touches, a project
+/// has.
 pub fn a_touch_meets_an_idle_row()
     ensures { (j : List AuditEntry) (e : AuditEntry) → History j → Legal j e → (d : Digest)
         → IsTrue (touches d e.kind)
