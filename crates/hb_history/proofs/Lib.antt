@@ -1,13 +1,13 @@
-mod Additions
+pub mod Additions
 mod FoundRows
-mod IdleRows
-mod NamedGrace
+pub mod IdleRows
+pub mod NamedGrace
 mod PairSteps
 mod PairTables
-mod PresentRows
-mod Settled
-mod Sizes
-mod UsedRows
+pub mod PresentRows
+pub mod Settled
+pub mod Sizes
+pub mod UsedRows
 mod VersionMoves
-mod VersionSteps
-mod WholeSound
+pub mod VersionSteps
+pub mod WholeSound
