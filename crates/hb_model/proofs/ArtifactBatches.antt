@@ -1,30 +1,30 @@
 -- The changes of a manifest's put and of an artifact's drop make their effect.
-use Rattle.std.proofs.Common.{List, None, Option, Some, [], ap, cond, false, fold, map, not, option_map, refl, sym, true, ℕ, ◌++◌, ◌∙◌, ◌∷◌, ◌≡◌}
+use Rattle.std.proofs.Common.{◌≡◌, ℕ, true, false, not, cond, List, [], ◌∷◌, ◌++◌, map, fold, Option, Some, None, option_map, refl, sym, ap, ◌∙◌}
 use Rattle.std.specs.Prelude.{filter}
 use Rattle.std.proofs.lemmas.Cmp.{eq_by_cmp_equiv, tied_itself}
-use Rattle.std.specs.List.{AllByRecursion, flat_map}
+use Rattle.std.specs.List.{flat_map, AllByRecursion}
 use Rattle.std.specs.Ordering.{is_eq, ordering_then}
-use Rattle.hb_base.proofs.TableLaws.{Rises-changed, Rises-with, changed-again, changed-with, row_at-with, without_passing}
 use Rattle.hb_base.specs.Tables.{Rises, row_at, without_key}
-use Rattle.hb_text.proofs.KeyOrders.{digest_cmp-order, text_cmp-order}
+use Rattle.hb_base.proofs.TableLaws.{Rises-changed, Rises-with, changed-again, changed-with, row_at-with, without_passing}
 use Rattle.hb_text.specs.Names.{project_of}
 use Rattle.hb_text.specs.Orders.{digest_cmp}
 use Rattle.hb_text.specs.declared.digests.Digest.{Digest}
-use Rattle.hb_records.proofs.KeyOrders.{named_digest_cmp-order, named_tag_cmp-order}
+use Rattle.hb_text.proofs.KeyOrders.{digest_cmp-order, text_cmp-order}
 use Rattle.hb_records.specs.Orders.{artifact_key, blob_key, named_digest_cmp, named_tag_cmp, pair_key, tag_key}
+use Rattle.hb_records.specs.declared.keys.Key.TheVariants as key
 use Rattle.hb_records.specs.declared.records.Assoc.{Assoc}
 use Rattle.hb_records.specs.declared.records.TagRow.{TagRow}
+use Rattle.hb_records.proofs.KeyOrders.{named_digest_cmp-order, named_tag_cmp-order}
 use Rattle.hb_rows.specs.Batches.{after_changes, drop_key}
 use Rattle.hb_rows.specs.Tables.{AreTables, Tables, artifact_at, blob_at, pair_at}
-use Rattle.hb_model.proofs.ContentBatches.{associate-batch}
-use Rattle.hb_model.proofs.Tables.{blob-changed, pair-changed, then-changes}
 use Rattle.hb_model.specs.ArtifactChanges.{artifact_change, drop_artifact_changes, drop_tag_row, put_changes, tag_changes}
 use Rattle.hb_model.specs.ArtifactEffects.{artifacts_with, drop_artifact, names_artifact, other_refs, pushed_artifact, put_artifact, tags_with}
 use Rattle.hb_model.specs.BlobEffects.{associate, idle_row, pairs_with, touch, touch_blobs, touch_pairs, touched_blob, touched_pair}
 use Rattle.hb_model.specs.ContentChanges.{associate_changes, touch_blob_changes, touch_changes, touch_pair_changes}
 use Rattle.hb_model.specs.ExampleNames.{other}
 use Rattle.hb_model.specs.Words.{same_digest}
-use Rattle.hb_records.specs.declared.keys.Key.TheVariants as key
+use Rattle.hb_model.proofs.ContentBatches.{associate-batch}
+use Rattle.hb_model.proofs.Tables.{blob-changed, pair-changed, then-changes}
 
 -- the tags of an artifact, dropped one by one
 tags-dropped : (s : Tables) (rows : List TagRow) → after_changes s (map drop_tag_row rows) ≡ record s { tags = fold (λ rows row. without_key named_tag_cmp tag_key (tag_key row) rows) s.tags rows }

@@ -1,5 +1,5 @@
 -- The changes of each entry make its effect, and a batch of them makes the rows of the longer audit.
-use Rattle.std.proofs.Common.{List, [], ap, arith, length, refl, reverse, subst, sym, ℕ, ◌++◌, ◌<◌, ◌∙◌, ◌∷◌, ◌≡◌}
+use Rattle.std.proofs.Common.{◌≡◌, ℕ, ◌<◌, List, [], ◌∷◌, ◌++◌, length, reverse, refl, sym, ap, subst, ◌∙◌, arith}
 use Rattle.std.proofs.lemmas.Grind.{reverse_onto}
 use Rattle.std.proofs.lemmas.List.{reverse-append, reverse-reverse}
 use Rattle.std.specs.Cmp.{nat_cmp_is}
@@ -10,21 +10,21 @@ use Rattle.hb_base.specs.Tables.{placed, with_row}
 use Rattle.hb_records.specs.Entries.{AuditEntry}
 use Rattle.hb_records.specs.Orders.{entry_key}
 use Rattle.hb_records.specs.declared.batches.Batch.{Batch}
+use Rattle.hb_records.specs.declared.batches.Row.TheVariants as row
 use Rattle.hb_records.specs.declared.entries.EntryKind.{EntryKind}
-use Rattle.hb_records.specs.declared.entries.EntryKind.TheVariants.{Adopted, ArtifactDropped, ArtifactPut, Associated, Collected, GcDone, GcMarked, GcSkipped, JobClaimed, JobQueued, LimitSet, ProjectMade, Pulled, RetainBegun, RetainDone, RetainTurn, RulesSet, TagDropped, Taking, Touched, Unassociated, UploadBegun, UploadEnded, UploadGrown}
-use Rattle.hb_rows.proofs.KeysRise.{AreTables-changes, AreTables-set}
+use Rattle.hb_records.specs.declared.entries.EntryKind.TheVariants.{ProjectMade, LimitSet, RulesSet, UploadBegun, UploadGrown, UploadEnded, Associated, Touched, Unassociated, ArtifactPut, ArtifactDropped, TagDropped, Pulled, JobQueued, JobClaimed, GcMarked, Taking, Collected, GcSkipped, Adopted, GcDone, RetainBegun, RetainTurn, RetainDone}
 use Rattle.hb_rows.specs.Batches.{after_batch, after_changes, from_oldest, set_row}
 use Rattle.hb_rows.specs.Tables.{AreTables, Tables, artifact_at, blob_at, job_at, project_at, upload_at}
+use Rattle.hb_rows.proofs.KeysRise.{AreTables-changes, AreTables-set}
+use Rattle.hb_model.specs.Changes.{changes, changes_of}
+use Rattle.hb_model.specs.Effects.{after_entry, effect, rows_of}
+use Rattle.hb_model.specs.History.{History}
+use Rattle.hb_model.specs.Numbered.{IsNumbered}
 use Rattle.hb_model.proofs.ArtifactBatches.{drop_artifact-batch, put_artifact-batch}
 use Rattle.hb_model.proofs.CollectBatches.{collect-batch, mark_page-batch, skip-batch}
 use Rattle.hb_model.proofs.ContentBatches.{associate-batch, touch-batch, unassociate-batch}
 use Rattle.hb_model.proofs.RetainBatches.{begin_retain-batch, turn-batch}
 use Rattle.hb_model.proofs.Tables.{artifact-changed, blob-changed, job-changed, project-changed, upload-changed}
-use Rattle.hb_model.specs.Changes.{changes, changes_of}
-use Rattle.hb_model.specs.Effects.{after_entry, effect, rows_of}
-use Rattle.hb_model.specs.History.{History}
-use Rattle.hb_model.specs.Numbered.{IsNumbered}
-use Rattle.hb_records.specs.declared.batches.Row.TheVariants as row
 
 pub changes-effect : (t : Tables) (n moment : ℕ) (kind : EntryKind) → AreTables t → after_changes t (changes n moment kind t) ≡ effect n moment kind t
 changes-effect t n moment (ProjectMade project limit) h = refl

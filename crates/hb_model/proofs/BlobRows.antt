@@ -1,15 +1,15 @@
 -- The row of one digest after each entry, and what its bar tells.
-use Rattle.std.proofs.Common.{Bool, List, None, Option, Some, [], ap, arith, cond, false, fold, nat_eq, not, refl, sym, true, ℕ, ◌||◌, ◌∙◌, ◌∷◌, ◌≡◌}
+use Rattle.std.proofs.Common.{◌≡◌, ℕ, nat_eq, Bool, true, false, not, cond, ◌||◌, List, [], ◌∷◌, fold, Option, Some, None, refl, sym, ap, ◌∙◌, arith}
 use Rattle.std.proofs.lemmas.Bool.Decides.{nat_tests}
-use Rattle.hb_base.proofs.TableLaws.{row_at-changed, row_at-with, row_at-without}
 use Rattle.hb_base.specs.Tables.{changed_at, found, row_at}
-use Rattle.hb_text.proofs.KeyOrders.{digest_cmp-order}
+use Rattle.hb_base.proofs.TableLaws.{row_at-changed, row_at-with, row_at-without}
 use Rattle.hb_text.specs.Orders.{digest_cmp}
 use Rattle.hb_text.specs.declared.digests.Digest.{Digest}
+use Rattle.hb_text.proofs.KeyOrders.{digest_cmp-order}
 use Rattle.hb_records.specs.Entries.{AuditEntry}
 use Rattle.hb_records.specs.Orders.{blob_key}
 use Rattle.hb_records.specs.declared.entries.EntryKind.{EntryKind}
-use Rattle.hb_records.specs.declared.entries.EntryKind.TheVariants.{Adopted, ArtifactDropped, ArtifactPut, Associated, Collected, GcDone, GcMarked, GcSkipped, JobClaimed, JobQueued, LimitSet, ProjectMade, Pulled, RetainBegun, RetainDone, RetainTurn, RulesSet, TagDropped, Taking, Touched, Unassociated, UploadBegun, UploadEnded, UploadGrown}
+use Rattle.hb_records.specs.declared.entries.EntryKind.TheVariants.{ProjectMade, LimitSet, RulesSet, UploadBegun, UploadGrown, UploadEnded, Associated, Touched, Unassociated, ArtifactPut, ArtifactDropped, TagDropped, Pulled, JobQueued, JobClaimed, GcMarked, Taking, Collected, GcSkipped, Adopted, GcDone, RetainBegun, RetainTurn, RetainDone}
 use Rattle.hb_records.specs.declared.records.Blob.{Blob}
 use Rattle.hb_rows.specs.Tables.{Tables, blob_at}
 use Rattle.hb_model.specs.ArtifactEffects.{other_refs}
@@ -91,11 +91,11 @@ gone-tells true taken x h row e = cc
 gone-tells false taken x h row e = h row e
 
 -- a Taking of the digest stands since it was last stored
-abbrev taken_since : List AuditEntry → Digest → Bool
+abbrev pub taken_since : List AuditEntry → Digest → Bool
 taken_since j d = has_kind (takes_digest d) (since_kind (stores d) j)
 
 -- the same, with an entry more
-abbrev taken_after : Digest → EntryKind → Bool → Bool
+abbrev pub taken_after : Digest → EntryKind → Bool → Bool
 taken_after d kind taken = cond (stores d kind) false (takes_digest d kind || taken)
 
 tells-after : (d : Digest) (n moment : ℕ) (kind : EntryKind) (x : Option Blob) (taken : Bool) → Tells x taken → Tells (row_after d n moment kind x) (taken_after d kind taken)
@@ -109,7 +109,7 @@ tells-after d n moment (Collected job digest) x taken h = gone-tells (same_diges
 tells-after d n moment (GcSkipped job digest why) x taken h = elim (is_failure why) as (λ b. Tells (cond b (changed_if (same_digest d digest) (failed_blob n) x) x) taken) [ true ↦ keeps-tells (same_digest d digest) taken (failed_blob n) (λ r. refl) x h | false ↦ h ]
 tells-after d n moment _ x taken h = h
 
-taken-since : (d : Digest) (e : AuditEntry) (j : List AuditEntry) → taken_since (e ∷ j) d ≡ taken_after d e.kind (taken_since j d)
+pub taken-since : (d : Digest) (e : AuditEntry) (j : List AuditEntry) → taken_since (e ∷ j) d ≡ taken_after d e.kind (taken_since j d)
 taken-since d e j = elim (stores d e.kind) as (λ b. has_kind (takes_digest d) (cond b [] (e ∷ since_kind (stores d) j)) ≡ cond b false (takes_digest d e.kind || taken_since j d)) [ true ↦ refl | false ↦ refl ]
 
 pub bar-tells : (j : List AuditEntry) → BarTells j

@@ -1,25 +1,25 @@
 -- The changes of the entries of a collection make their effect.
-use Rattle.std.proofs.Common.{Bool, List, None, Option, Some, [], cond, false, fold, option_map, refl, true, ℕ, ◌++◌, ◌∙◌, ◌∷◌, ◌≡◌}
+use Rattle.std.proofs.Common.{◌≡◌, ℕ, Bool, true, false, cond, List, [], ◌∷◌, ◌++◌, fold, Option, Some, None, option_map, refl, ◌∙◌}
 use Rattle.std.specs.Prelude.{if◌then◌else◌}
 use Rattle.std.specs.List.{flat_map}
-use Rattle.hb_base.proofs.TableLaws.{Rises-changed, changed-again}
 use Rattle.hb_base.specs.Tables.{Rises}
-use Rattle.hb_text.proofs.KeyOrders.{digest_cmp-order}
+use Rattle.hb_base.proofs.TableLaws.{Rises-changed, changed-again}
 use Rattle.hb_text.specs.Orders.{digest_cmp}
 use Rattle.hb_text.specs.declared.digests.Digest.{Digest}
+use Rattle.hb_text.proofs.KeyOrders.{digest_cmp-order}
 use Rattle.hb_records.specs.Orders.{blob_key}
 use Rattle.hb_records.specs.declared.batches.Change.TheVariants.{Drop, Set}
+use Rattle.hb_records.specs.declared.batches.Row.TheVariants as row
 use Rattle.hb_records.specs.declared.jobs.Verdict.{Verdict}
+use Rattle.hb_records.specs.declared.jobs.Verdict.TheVariants as verdict
+use Rattle.hb_records.specs.declared.keys.Key.TheVariants as key
 use Rattle.hb_rows.specs.Batches.{after_changes}
 use Rattle.hb_rows.specs.Tables.{AreTables, Tables, blob_at, candidate_at, job_at}
-use Rattle.hb_model.proofs.Tables.{blob-changed, candidate-changed, job-changed, then-changes}
 use Rattle.hb_model.specs.BlobEffects.{failed_blob, failed_blobs}
 use Rattle.hb_model.specs.CollectEffects.{collect, give_verdict, is_failure, mark_blobs, mark_page, marked_blob, marked_job, skip, with_candidate}
 use Rattle.hb_model.specs.ContentChanges.{on_row}
 use Rattle.hb_model.specs.JobChanges.{candidate_changes, delete_changes, fail_changes, job_changes, mark_changes, mark_page_changes, skip_changes, verdict_changes}
-use Rattle.hb_records.specs.declared.jobs.Verdict.TheVariants as verdict
-use Rattle.hb_records.specs.declared.batches.Row.TheVariants as row
-use Rattle.hb_records.specs.declared.keys.Key.TheVariants as key
+use Rattle.hb_model.proofs.Tables.{blob-changed, candidate-changed, job-changed, then-changes}
 
 module _ (t : Tables) (h : AreTables t) (n job : ℕ) where
   -- the page so far has marked rows of t

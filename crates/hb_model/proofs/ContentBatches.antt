@@ -1,23 +1,23 @@
 -- The changes of entries about content make their effect.
-use Rattle.std.proofs.Common.{List, None, Option, Some, [], ap, cond, false, nat_eq, refl, sym, true, ℕ, ◌++◌, ◌+◌, ◌-◌, ◌∙◌, ◌∷◌, ◌≡◌}
-use Rattle.hb_base.proofs.TableLaws.{changed-absent, changed-with, with-same}
+use Rattle.std.proofs.Common.{◌≡◌, ℕ, ◌+◌, ◌-◌, nat_eq, true, false, cond, List, [], ◌∷◌, ◌++◌, Option, Some, None, refl, sym, ap, ◌∙◌}
 use Rattle.hb_base.specs.Tables.{Rises, with_row}
-use Rattle.hb_text.proofs.KeyOrders.{text_cmp-order}
+use Rattle.hb_base.proofs.TableLaws.{changed-absent, changed-with, with-same}
 use Rattle.hb_text.specs.Orders.{digest_cmp, text_cmp}
 use Rattle.hb_text.specs.declared.digests.Digest.{Digest}
-use Rattle.hb_records.proofs.KeyOrders.{named_digest_cmp-order}
+use Rattle.hb_text.proofs.KeyOrders.{text_cmp-order}
 use Rattle.hb_records.specs.Orders.{blob_key, pair_key, project_key}
 use Rattle.hb_records.specs.declared.batches.Change.TheVariants.{Set}
+use Rattle.hb_records.specs.declared.batches.Row.TheVariants as row
+use Rattle.hb_records.specs.declared.keys.Key.TheVariants as key
 use Rattle.hb_records.specs.declared.records.Assoc.{Assoc}
 use Rattle.hb_records.specs.declared.records.Project.{Project}
+use Rattle.hb_records.proofs.KeyOrders.{named_digest_cmp-order}
 use Rattle.hb_rows.specs.Batches.{after_changes, drop_key}
 use Rattle.hb_rows.specs.Tables.{AreTables, Tables, blob_at, pair_at, project_at}
-use Rattle.hb_model.proofs.Tables.{blob-changed, pair-changed, then-changes}
 use Rattle.hb_model.specs.BlobEffects.{associate, idle_row, pairs_with, projects_with, projects_without, touch, touch_pairs, touched_blob, touched_pair, unassociate}
 use Rattle.hb_model.specs.ContentChanges.{associate_changes, idle_change, lose_changes, pair_changes, touch_blob_changes, touch_changes, touch_pair_changes, used_changes}
 use Rattle.hb_model.specs.ProjectEffects.{change_project, with_used}
-use Rattle.hb_records.specs.declared.batches.Row.TheVariants as row
-use Rattle.hb_records.specs.declared.keys.Key.TheVariants as key
+use Rattle.hb_model.proofs.Tables.{blob-changed, pair-changed, then-changes}
 
 -- what a project uses is no part of its key
 pub used-name : (n : ℕ) (f : ℕ → ℕ) (r : Project) → (with_used n f r).name ≡ r.name

@@ -3,9 +3,11 @@ pub mod Batches
 pub mod BlobRows
 mod CollectBatches
 pub mod ContentBatches
+pub mod EntrySteps
 mod ExampleTurns
 mod ExampleVerdicts
 mod RetainBatches
 pub mod SeenRows
 mod Tables
 pub mod UsedBound
+pub mod WholeSteps

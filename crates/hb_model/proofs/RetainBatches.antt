@@ -1,21 +1,21 @@
 -- The changes of the entries of a retention job make their effect.
-use Rattle.std.proofs.Common.{List, [], cond, false, fold, map, refl, true, ℕ, ◌∷◌, ◌≡◌}
+use Rattle.std.proofs.Common.{◌≡◌, ℕ, true, false, cond, List, [], ◌∷◌, map, fold, refl}
 use Rattle.std.specs.Prelude.{if◌then◌else◌}
 use Rattle.hb_base.specs.Tables.{changed_at, with_row, without_key}
 use Rattle.hb_records.specs.Orders.{job_tag_cmp, named_tag_cmp, snap_key, tag_key}
 use Rattle.hb_records.specs.declared.batches.Change.TheVariants.{Drop, Set}
+use Rattle.hb_records.specs.declared.batches.Row.TheVariants as row
 use Rattle.hb_records.specs.declared.jobs.JobRow.{JobRow}
+use Rattle.hb_records.specs.declared.jobs.Phase.TheVariants as phase
 use Rattle.hb_records.specs.declared.jobs.SnapTag.{SnapTag}
 use Rattle.hb_records.specs.declared.jobs.TagVerdict.{TagVerdict}
+use Rattle.hb_records.specs.declared.keys.Key.TheVariants as key
 use Rattle.hb_rows.specs.Batches.{after_changes, set_row}
 use Rattle.hb_rows.specs.Tables.{AreTables, Tables, job_at, snap_at}
-use Rattle.hb_model.proofs.Tables.{job-changed, snap-changed, then-changes}
 use Rattle.hb_model.specs.ContentChanges.{on_row}
 use Rattle.hb_model.specs.JobChanges.{begin_retain_changes, job_changes, snap_changes, turn_changes}
 use Rattle.hb_model.specs.RetainEffects.{begin_retain, is_drop, snaps_of, turn_tag}
-use Rattle.hb_records.specs.declared.jobs.Phase.TheVariants as phase
-use Rattle.hb_records.specs.declared.batches.Row.TheVariants as row
-use Rattle.hb_records.specs.declared.keys.Key.TheVariants as key
+use Rattle.hb_model.proofs.Tables.{job-changed, snap-changed, then-changes}
 
 snaps-set : (s : Tables) (rows : List SnapTag) → after_changes s (map (λ r. Set (row.Snap r)) rows) ≡ record s { snaps = fold (λ rows row. with_row job_tag_cmp snap_key row rows) s.snaps rows }
 snaps-set s [] = refl

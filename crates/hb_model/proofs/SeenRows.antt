@@ -1,31 +1,31 @@
 -- What clients see of the rows of an audit is what its replay gives.
-use Rattle.std.proofs.Common.{List, None, Option, Some, [], ap, cond, false, fold, map, nat_eq, not, option_map, refl, sym, true, ℕ, ◌+◌, ◌-◌, ◌∙◌, ◌∷◌, ◌≡◌}
+use Rattle.std.proofs.Common.{◌≡◌, ℕ, ◌+◌, ◌-◌, nat_eq, true, false, not, cond, List, [], ◌∷◌, map, fold, Option, Some, None, option_map, refl, sym, ap, ◌∙◌}
 use Rattle.std.specs.Ordering.{nat_cmp}
-use Rattle.hb_base.proofs.MappedTables.{map-changed, map-filter, map-unseen, map-with, map-without, row_at-map}
 use Rattle.hb_base.specs.Tables.{with_row, without_key}
+use Rattle.hb_base.proofs.MappedTables.{map-changed, map-filter, map-unseen, map-with, map-without, row_at-map}
 use Rattle.hb_text.specs.Names.{project_of}
 use Rattle.hb_text.specs.Orders.{digest_cmp, text_cmp}
 use Rattle.hb_text.specs.declared.digests.Digest.{Digest}
 use Rattle.hb_records.specs.Entries.{AuditEntry}
 use Rattle.hb_records.specs.Orders.{named_digest_cmp, named_tag_cmp}
+use Rattle.hb_records.specs.Orders as rows
 use Rattle.hb_records.specs.declared.entries.EntryKind.{EntryKind}
-use Rattle.hb_records.specs.declared.entries.EntryKind.TheVariants.{Adopted, ArtifactDropped, ArtifactPut, Associated, Collected, GcDone, GcMarked, GcSkipped, JobClaimed, JobQueued, LimitSet, ProjectMade, Pulled, RetainBegun, RetainDone, RetainTurn, RulesSet, TagDropped, Taking, Touched, Unassociated, UploadBegun, UploadEnded, UploadGrown}
+use Rattle.hb_records.specs.declared.entries.EntryKind.TheVariants.{ProjectMade, LimitSet, RulesSet, UploadBegun, UploadGrown, UploadEnded, Associated, Touched, Unassociated, ArtifactPut, ArtifactDropped, TagDropped, Pulled, JobQueued, JobClaimed, GcMarked, Taking, Collected, GcSkipped, Adopted, GcDone, RetainBegun, RetainTurn, RetainDone}
 use Rattle.hb_records.specs.declared.records.Artifact.{Artifact}
 use Rattle.hb_records.specs.declared.records.Assoc.{Assoc}
 use Rattle.hb_records.specs.declared.records.Blob.{Blob}
 use Rattle.hb_records.specs.declared.records.Project.{Project}
 use Rattle.hb_records.specs.declared.records.TagRow.{TagRow}
 use Rattle.hb_rows.specs.Tables.{Tables, artifact_at, pair_at}
+use Rattle.hb_model.specs.ArtifactEffects as artifact
+use Rattle.hb_model.specs.BlobEffects as blob
+use Rattle.hb_model.specs.CollectEffects as collect
 use Rattle.hb_model.specs.Effects.{effect, rows_of}
 use Rattle.hb_model.specs.ProjectEffects.{with_used}
 use Rattle.hb_model.specs.Registry.{artifact_in, artifact_key, pair_in, pair_key, project_name, stored_key, tag_key, upload_key}
 use Rattle.hb_model.specs.Replay.{artifacts_with, names_artifact, pairs_with, replay, step, tags_with}
 use Rattle.hb_model.specs.RetainEffects.{is_drop}
 use Rattle.hb_model.specs.Seen.{seen, seen_artifact, seen_blob, seen_pair, seen_project, seen_tag, seen_upload}
-use Rattle.hb_records.specs.Orders as rows
-use Rattle.hb_model.specs.BlobEffects as blob
-use Rattle.hb_model.specs.ArtifactEffects as artifact
-use Rattle.hb_model.specs.CollectEffects as collect
 
 -- ---- each table
 used_unseen : (n : ℕ) (f : ℕ → ℕ) (r : Project) → seen_project (with_used n f r) ≡ seen_project r

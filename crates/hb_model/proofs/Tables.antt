@@ -1,17 +1,17 @@
 -- Changes of a batch on the tables. To set a row that was found, as a change makes it, is to change the row of its key.
 -- What was found may come from older tables than those that are changed, where the change makes the same of both.
-use Rattle.std.proofs.Common.{List, None, Option, Some, ap, option_map, refl, ℕ, ◌++◌, ◌∙◌, ◌≡◌}
+use Rattle.std.proofs.Common.{◌≡◌, ℕ, List, ◌++◌, Option, Some, None, option_map, refl, ap, ◌∙◌}
 use Rattle.std.proofs.lemmas.List.Sums.{fold-append}
 use Rattle.std.specs.Ordering.{nat_cmp}
-use Rattle.hb_base.proofs.TableLaws.{set_found, set_found-changed}
 use Rattle.hb_base.specs.Tables.{Rises, changed_at}
-use Rattle.hb_text.proofs.KeyOrders.{digest_cmp-order, text_cmp-order}
+use Rattle.hb_base.proofs.TableLaws.{set_found, set_found-changed}
 use Rattle.hb_text.specs.Orders.{digest_cmp, text_cmp}
 use Rattle.hb_text.specs.declared.digests.Digest.{Digest}
-use Rattle.hb_records.proofs.KeyOrders.{job_digest_cmp-order, job_tag_cmp-order, named_digest_cmp-order, nat_cmp-order}
+use Rattle.hb_text.proofs.KeyOrders.{digest_cmp-order, text_cmp-order}
 use Rattle.hb_records.specs.Orders.{artifact_key, blob_key, candidate_key, job_digest_cmp, job_key, job_tag_cmp, named_digest_cmp, pair_key, project_key, snap_key, upload_key}
 use Rattle.hb_records.specs.declared.batches.Change.{Change}
 use Rattle.hb_records.specs.declared.batches.Change.TheVariants.{Set}
+use Rattle.hb_records.specs.declared.batches.Row.TheVariants as row
 use Rattle.hb_records.specs.declared.jobs.Candidate.{Candidate}
 use Rattle.hb_records.specs.declared.jobs.JobRow.{JobRow}
 use Rattle.hb_records.specs.declared.jobs.SnapTag.{SnapTag}
@@ -20,10 +20,10 @@ use Rattle.hb_records.specs.declared.records.Assoc.{Assoc}
 use Rattle.hb_records.specs.declared.records.Blob.{Blob}
 use Rattle.hb_records.specs.declared.records.Project.{Project}
 use Rattle.hb_records.specs.declared.records.Upload.{Upload}
+use Rattle.hb_records.proofs.KeyOrders.{job_digest_cmp-order, job_tag_cmp-order, named_digest_cmp-order, nat_cmp-order}
 use Rattle.hb_rows.specs.Batches.{after_change, after_changes}
 use Rattle.hb_rows.specs.Tables.{Tables, artifact_at, blob_at, candidate_at, job_at, pair_at, project_at, snap_at, upload_at}
 use Rattle.hb_model.specs.ContentChanges.{on_row}
-use Rattle.hb_records.specs.declared.batches.Row.TheVariants as row
 
 -- one part of the changes and then another
 pub then-changes : (t u v : Tables) (xs ys : List Change) → after_changes t xs ≡ u → after_changes u ys ≡ v → after_changes t (xs ++ ys) ≡ v

@@ -1,25 +1,25 @@
 -- What a project uses is bounded by the sizes in the entries of the audit, in every audit.
-use Rattle.std.proofs.Common.{Bool, List, None, Option, Some, [], ap, arith, cond, false, nat_eq, option_map, refl, true, ℕ, ◌+◌, ◌-◌, ◌∷◌, ◌≡◌, ◌≤◌}
+use Rattle.std.proofs.Common.{◌≡◌, ℕ, ◌+◌, ◌-◌, ◌≤◌, nat_eq, Bool, true, false, cond, List, [], ◌∷◌, Option, Some, None, option_map, refl, ap, arith}
 use Rattle.std.proofs.lemmas.Bool.Decides.{nat_tests}
 use Rattle.std.proofs.lemmas.List.Sums.{sum_by-cons}
 use Rattle.std.specs.Ordering.{is_eq}
-use Rattle.hb_base.proofs.TableLaws.{row_at-changed, row_at-with}
 use Rattle.hb_base.specs.Tables.{changed_at, row_at, with_row}
-use Rattle.hb_text.proofs.KeyOrders.{text_cmp-order}
+use Rattle.hb_base.proofs.TableLaws.{row_at-changed, row_at-with}
 use Rattle.hb_text.specs.Names.{project_of}
 use Rattle.hb_text.specs.Orders.{text_cmp}
+use Rattle.hb_text.proofs.KeyOrders.{text_cmp-order}
 use Rattle.hb_records.specs.Entries.{AuditEntry}
 use Rattle.hb_records.specs.Orders.{project_key}
 use Rattle.hb_records.specs.declared.entries.EntryKind.{EntryKind}
-use Rattle.hb_records.specs.declared.entries.EntryKind.TheVariants.{ArtifactPut, Associated, LimitSet, ProjectMade, RulesSet, Unassociated}
+use Rattle.hb_records.specs.declared.entries.EntryKind.TheVariants.{ProjectMade, LimitSet, RulesSet, Associated, Unassociated, ArtifactPut}
 use Rattle.hb_records.specs.declared.records.Assoc.{Assoc}
 use Rattle.hb_records.specs.declared.records.Project.{Project}
 use Rattle.hb_rows.specs.Tables.{Tables, pair_at, project_at}
-use Rattle.hb_model.proofs.ContentBatches.{used-name}
 use Rattle.hb_model.specs.BlobEffects.{projects_with, projects_without}
 use Rattle.hb_model.specs.Effects.{effect, rows_of}
 use Rattle.hb_model.specs.ProjectEffects.{new_project, with_used}
 use Rattle.hb_model.specs.UsedBound.{UsedIsBounded, added_by, used_in}
+use Rattle.hb_model.proofs.ContentBatches.{used-name}
 
 -- what is used after a change of it
 used-with : (n : ℕ) (f : ℕ → ℕ) (r : Project) → (with_used n f r).used ≡ f r.used

@@ -1,9 +1,9 @@
 -- The row of one digest: what each entry does to it, and what its bar tells.
-use Rattle.std.specs.Prelude.{Bool, List, None, Option, Some, if◌then◌else◌, nat_eq, not, option_map, ℕ, ◌≡◌}
+use Rattle.std.specs.Prelude.{◌≡◌, ℕ, nat_eq, Bool, not, if◌then◌else◌, List, Option, Some, None, option_map}
 use Rattle.hb_text.specs.declared.digests.Digest.{Digest}
 use Rattle.hb_records.specs.Entries.{AuditEntry}
 use Rattle.hb_records.specs.declared.entries.EntryKind.{EntryKind}
-use Rattle.hb_records.specs.declared.entries.EntryKind.TheVariants.{Adopted, ArtifactPut, Associated, Collected, GcMarked, GcSkipped, Taking, Touched}
+use Rattle.hb_records.specs.declared.entries.EntryKind.TheVariants.{Associated, Touched, ArtifactPut, GcMarked, Taking, Collected, GcSkipped, Adopted}
 use Rattle.hb_records.specs.declared.records.Blob.{Blob}
 use Rattle.hb_rows.specs.Tables.{blob_at}
 use Rattle.hb_model.specs.ArtifactEffects.{other_refs}

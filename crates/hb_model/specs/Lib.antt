@@ -28,6 +28,7 @@ pub mod Moves
 pub mod Numbered
 pub mod Presence
 pub mod ProjectEffects
+pub mod Quiet
 pub mod QuotaExamples
 pub mod Registry
 pub mod Replay

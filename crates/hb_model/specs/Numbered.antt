@@ -1,5 +1,5 @@
 -- Audits whose entries have the numbers from 1 on, whether they are legal or not.
-use Rattle.std.specs.Prelude.{List, [], length, suc, ◌∷◌, ◌≡◌}
+use Rattle.std.specs.Prelude.{◌≡◌, suc, List, [], ◌∷◌, length}
 use Rattle.hb_records.specs.Entries.{AuditEntry}
 
 abbrev pub IsNumbered : List AuditEntry → Type 0

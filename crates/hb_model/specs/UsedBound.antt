@@ -1,8 +1,8 @@
 -- How much a project's row can say that it uses.
-use Rattle.std.specs.Prelude.{List, None, Option, Some, sum_by, ℕ, ◌≤◌}
+use Rattle.std.specs.Prelude.{ℕ, ◌≤◌, List, sum_by, Option, Some, None}
 use Rattle.hb_records.specs.Entries.{AuditEntry}
 use Rattle.hb_records.specs.declared.entries.EntryKind.{EntryKind}
-use Rattle.hb_records.specs.declared.entries.EntryKind.TheVariants.{ArtifactPut, Associated}
+use Rattle.hb_records.specs.declared.entries.EntryKind.TheVariants.{Associated, ArtifactPut}
 use Rattle.hb_records.specs.declared.records.Project.{Project}
 use Rattle.hb_rows.specs.Tables.{project_at}
 use Rattle.hb_model.specs.Effects.{rows_of}

@@ -23,20 +23,20 @@ pub fn nothing_is_there_before_the_first_entry()
     ensures seen { replay [] ≡ empty_registry }
 {}
 
-/// What clients see of the rows of an audit is what the audit's replay gives, whether the audit is legal or not.
-/// So an answer that is read from rows is an answer about the audit.
+/// What clients see of the rows of an audit is what the audit's replay gives, whether the audit is legal or
+/// not. So an answer that is read from rows is an answer about the audit.
 pub fn clients_see_the_replay()
     ensures { (j : List AuditEntry) → seen (rows_of j) ≡ replay j }
 {}
 
-/// In the rows of every audit the bar of a digest's row is 0 exactly where no collection took the digest since
-/// it was last stored.
+/// In the rows of every audit the bar of a digest's row is 0 exactly where no collection took the digest
+/// since it was last stored.
 pub fn a_bar_tells_of_a_taking()
     ensures { (j : List AuditEntry) → BarTells j }
 {}
 
-/// The changes that a batch has for an entry make the entry's effect, whatever its kind, on any tables whose keys
-/// rise.
+/// The changes that a batch has for an entry make the entry's effect, whatever its kind, on any tables whose
+/// keys rise.
 pub fn changes_make_the_effect()
     ensures { (t : Tables) (n moment : ℕ) (kind : EntryKind)
         → AreTables t → after_changes t (changes n moment kind t) ≡ effect n moment kind t }
@@ -47,8 +47,8 @@ pub fn rows_of_an_audit_are_tables()
     ensures { (j : List AuditEntry) → IsNumbered j → AreTables (rows_of j) }
 {}
 
-/// A batch that has the changes of its entry makes, of the rows of an audit, those of the audit with the entry. So
-/// the rows need no more than batches to stay the rows of their audit.
+/// A batch that has the changes of its entry makes, of the rows of an audit, those of the audit with the
+/// entry. So the rows need no more than batches to stay the rows of their audit.
 pub fn a_batch_makes_the_rows_of_the_longer_audit()
     ensures { (j : List AuditEntry) (b : Batch)
         → IsNumbered (b.entry ∷ j)
@@ -61,8 +61,9 @@ pub fn histories_are_numbered()
     ensures { (j : List AuditEntry) → History j → IsNumbered j }
 {}
 
-/// In every audit, legal or not, what the row of a project says that it uses is at most the sum of the sizes in
-/// the audit's entries. So a sum of what is used stays within the bounds of its type where that of the sizes does.
+/// In every audit, legal or not, what the row of a project says that it uses is at most the sum of the sizes
+/// in the audit's entries. So a sum of what is used stays within the bounds of its type where that of the
+/// sizes does.
 pub fn what_is_used_is_bounded()
     ensures { (j : List AuditEntry) → UsedIsBounded j }
 {}

@@ -9,14 +9,16 @@
 //!   what a project uses and needs, and when something may go.
 //! - `specs/History`, `specs/Legal..`, `specs/Jobs`, `specs/Snapshots`: which entry may follow an audit.
 //! - `specs/Effects` and the effects by theme: what an entry does to the rows. `specs/Changes` and the changes by
-//!   theme: the same as a batch. `specs/Seen`: what clients see of rows. `specs/BlobRows`: what becomes of the row of
-//!   one digest. `specs/UsedBound`: the most that a project can use. `specs/Numbered`: audits that are numbered.
+//!   theme: the same as a batch. `specs/Seen`: what clients see of rows. `specs/BlobRows`: what becomes of the row
+//!   of one digest. `specs/Numbered`, `specs/UsedBound`: what holds of the rows of every audit.
 //! - `specs/Sound`, `specs/Whole`: what is promised of stored bytes, and what every event keeps.
 //! - [`examples`]: what all of them come to in worked logs, and which entries are legal there.
 //! - [`laws`]: what holds of the definitions.
+//! - [`quiet`], `specs/Quiet`: entries that touch no content, which keep the registry whole.
 #![tactic(auto)]
 
 pub mod examples;
 pub mod laws;
+pub mod quiet;
 #[cfg(test)]
 mod tests;

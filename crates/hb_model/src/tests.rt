@@ -20,7 +20,12 @@ use crate::examples::{
     which_entries_of_uploads_are_legal, which_marks_and_takings_are_legal,
     which_verdicts_are_legal,
 };
-use crate::laws::nothing_is_there_before_the_first_entry;
+use crate::laws::{
+    a_bar_tells_of_a_taking, a_batch_makes_the_rows_of_the_longer_audit, changes_make_the_effect,
+    clients_see_the_replay, histories_are_numbered, nothing_is_there_before_the_first_entry,
+    rows_of_an_audit_are_tables, what_is_used_is_bounded,
+};
+use crate::quiet::{quiet_entries_keep_the_registry_whole, whole_without_notes};
 use hb_text::Digest;
 use std::test::Fail;
 
@@ -64,8 +69,22 @@ fn digests_are_those_of_their_texts(rt: HostRuntime) -> Result<(), Fail> {
 
 // These do nothing: what they say is proved.
 #[test]
-fn worked_logs(_rt: HostRuntime) -> Result<(), Fail> {
+fn laws(_rt: HostRuntime) -> Result<(), Fail> {
     nothing_is_there_before_the_first_entry();
+    clients_see_the_replay();
+    a_bar_tells_of_a_taking();
+    changes_make_the_effect();
+    rows_of_an_audit_are_tables();
+    a_batch_makes_the_rows_of_the_longer_audit();
+    histories_are_numbered();
+    what_is_used_is_bounded();
+    quiet_entries_keep_the_registry_whole();
+    whole_without_notes();
+    Ok(())
+}
+
+#[test]
+fn worked_logs(_rt: HostRuntime) -> Result<(), Fail> {
     a_new_registry_is_whole();
     a_registry_without_its_content_is_not_whole();
     a_mounted_blob_counts_in_both_projects();
