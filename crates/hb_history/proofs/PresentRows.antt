@@ -28,14 +28,10 @@ use Rattle.hb_model.specs.Registry.{stored_in, stored_key}
 use Rattle.hb_model.specs.Replay.{replay}
 use Rattle.hb_model.specs.Seen.{seen_blob}
 use Rattle.hb_model.specs.Words.{same_digest, among, some_and, has_kind, last_kind, since_kind}
-use Rattle.hb_model.proofs.BlobRows.{blob_at-after, bar-tells}
+use Rattle.hb_model.proofs.BlobRows.{taken_since, blob_at-after, bar-tells}
 use Rattle.hb_model.proofs.SeenRows.{seen-rows}
 use Rattle.hb_history.specs.PresentRows.{is_here, is_here_by}
 use Rattle.hb_history.proofs.Settled.{exact-digest}
-
--- a Taking of the digest stands since it was last stored
-abbrev taken_since : List AuditEntry → Digest → Bool
-taken_since j d = has_kind (takes_digest d) (since_kind (stores d) j)
 
 -- the bar that a status asks for
 abbrev Fitting : Status → ℕ → Type 0

@@ -26,6 +26,7 @@ use Rattle.hb_model.specs.Presence.{collecting}
 use Rattle.hb_model.specs.Jobs.{marks_for, takes_for}
 use Rattle.hb_model.specs.LegalCollect.{last_move, next_page}
 use Rattle.hb_model.specs.History.{LegalKind, Legal, History}
+use Rattle.hb_model.proofs.EntrySteps.{present-newer}
 use Rattle.hb_history.proofs.PairSteps.{same_pair, pair_item, kept_or, pair_after, pair-step, stored_item, stored_after, stored-step}
 
 pub exact-digest : (a b : Digest) → same_digest a b ≡ true → a ≡ b
@@ -45,6 +46,7 @@ same-pair-digest p d q e h = then-second (text_cmp p q) (digest_cmp d e) h
 abbrev pub keeps : Digest → EntryKind → Bool
 keeps d kind = stores d kind || touches d kind
 
+-- stored, taken, collected, touched, marked: what is stored or touched is moved
 moved : (a b c f g : Bool) → (a || f) ≡ true → (a || b || c || f || g) ≡ true
 moved true b c f g e = refl
 moved false true c f g e = refl
@@ -52,6 +54,7 @@ moved false false true f g e = refl
 moved false false false true g e = refl
 moved false false false false g e = cc
 
+-- and what is none of the five isn't
 still : (a b c f g : Bool) → (a || f) ≡ false → b ≡ false → c ≡ false → g ≡ false → (a || b || c || f || g) ≡ false
 still true b c f g e t u v = cc
 still false true c f g e t u v = cc
@@ -70,27 +73,14 @@ stored-some d (ArtifactPut name digest size media refs children tag) x e = ap (�
 stored-some d (Adopted job digest size) x e = ap (λ b. is_some (cond b (Some (stored_item digest size)) x)) e
 stored-some d _ x e = cc
 
-stored-same : (d : Digest) (kind : EntryKind) (x : Option StoredItem) → stores d kind ≡ false → collects d kind ≡ false → stored_after d kind x ≡ x
-stored-same d (Associated project digest size) x e f = ap (λ b. cond b (Some (stored_item digest size)) x) e
-stored-same d (ArtifactPut name digest size media refs children tag) x e f = ap (λ b. cond b (Some (stored_item digest size)) x) e
-stored-same d (Adopted job digest size) x e f = ap (λ b. cond b (Some (stored_item digest size)) x) e
-stored-same d (Collected job digest) x e f = ap (λ b. cond b None x) f
-stored-same d _ x e f = refl
-
 present-stored : (j : List AuditEntry) (e : AuditEntry) (d : Digest) → stores d e.kind ≡ true → present (e ∷ j) d ≡ true
 present-stored j e d s =
     let here = ap is_some (stored-step d e.number e.moment e.kind (replay j)) ∙ stored-some d e.kind (stored_in (replay j) d) s in
     let none = ap (λ b. not (has_kind (takes_digest d) (cond b [] (e ∷ since_kind (stores d) j)))) s in
     and_from _ _ here none
 
-pub present-same : (j : List AuditEntry) (e : AuditEntry) (d : Digest) → stores d e.kind ≡ false → takes_digest d e.kind ≡ false → collects d e.kind ≡ false → present (e ∷ j) d ≡ present j d
-present-same j e d s t c =
-    let here = ap is_some (stored-step d e.number e.moment e.kind (replay j) ∙ stored-same d e.kind (stored_in (replay j) d) s c) in
-    let since = ap (λ b. not (has_kind (takes_digest d) (cond b [] (e ∷ since_kind (stores d) j)))) s ∙ ap (λ b. not (b || has_kind (takes_digest d) (since_kind (stores d) j))) t in
-    λ i. here i && since i
-
 -- ---- what isn't done to a digest that is settled
--- an entry that is told by a test that a stored or named digest's last move fails isn't its last move
+-- an entry that neither stores nor names the digest isn't the last move of one that is settled
 not-last : (test : EntryKind → Bool) (d : Digest) → ((kind : EntryKind) → test kind ≡ true → keeps d kind ≡ false) → (last : Option AuditEntry) → some_and (λ e. test e.kind) last ≡ true → some_and (λ e. keeps d e.kind) last ≡ true → ⊥
 not-last test d apart None e f = cc
 not-last test d apart (Some x) e f = both_ways _ (apart x.kind e) f
@@ -213,12 +203,12 @@ settled-step j e legal before p d there =
         | true ↦ λ t.
             let known = named-pair j e.moment e.kind d legal.kind t in
             let u = named-unmoved d e.kind t in
-            record { last = last-here j e d (or_right (stores d e.kind) (touches d e.kind) t); here = present-same j e d s u.untaken u.uncollected ∙ (before known.0 d known.1).here }
+            record { last = last-here j e d (or_right (stores d e.kind) (touches d e.kind) t); here = present-newer j e d u.untaken u.uncollected (before known.0 d known.1).here }
         | false ↦ λ t.
             let old = pair-before p d e.kind (pair_in (replay j) p d) s (subst IsSome (pair-step p d e.number e.moment e.kind (replay j)) there) in
             let h = before p d old in
             let u = unmoved j p d e.moment e.kind old h legal.kind in
-            record { last = last-before j e d (or_from (stores d e.kind) (touches d e.kind) s t) u ∙ h.last; here = present-same j e d s u.untaken u.uncollected ∙ h.here }
+            record { last = last-before j e d (or_from (stores d e.kind) (touches d e.kind) s t) u ∙ h.last; here = present-newer j e d u.untaken u.uncollected h.here }
       ] refl
     ] refl
 
