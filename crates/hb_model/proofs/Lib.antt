@@ -2,7 +2,7 @@ mod ArtifactBatches
 pub mod Batches
 pub mod BlobRows
 mod CollectBatches
-mod ContentBatches
+pub mod ContentBatches
 pub mod EntrySteps
 mod ExampleTurns
 mod ExampleVerdicts
