@@ -93,7 +93,7 @@ newest-more : (n : ℕ) (j : List AuditEntry) (x : AuditEntry) → IsNewest n j 
 newest-more n [] x h less = (less, tt)
 newest-more n (y ∷ j) x h less = (h.0, newest-more n j x h.1 less)
 
-newest-reverse : (n : ℕ) (j : List AuditEntry) → IsNewest n j → IsNewest n (reverse j)
+pub newest-reverse : (n : ℕ) (j : List AuditEntry) → IsNewest n j → IsNewest n (reverse j)
 newest-reverse n [] h = tt
 newest-reverse n (x ∷ j) h = subst (IsNewest n) (sym (reverse_onto j x [])) (newest-more n (reverse j) x (newest-reverse n j h.1) h.0)
 

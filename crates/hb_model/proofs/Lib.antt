@@ -2,10 +2,12 @@ mod ArtifactBatches
 pub mod Batches
 pub mod BlobRows
 mod CollectBatches
-mod ContentBatches
+pub mod ContentBatches
 pub mod EntrySteps
 mod ExampleTurns
 mod ExampleVerdicts
+pub mod ProjectNames
+mod Remaking
 mod RetainBatches
 pub mod SeenRows
 mod Tables

@@ -3,6 +3,7 @@ pub mod ArtifactEffects
 pub mod BatchExamples
 pub mod BlobEffects
 pub mod BlobRows
+pub mod Built
 pub mod Changes
 pub mod CollectEffects
 pub mod CollectExamples
@@ -11,6 +12,7 @@ pub mod Effects
 pub mod ExampleColumns
 pub mod ExampleLogs
 pub mod ExampleNames
+pub mod Fit
 pub mod Grace
 pub mod History
 pub mod ImmutabilityExamples
@@ -32,6 +34,7 @@ pub mod Quiet
 pub mod QuotaExamples
 pub mod Registry
 pub mod Replay
+pub mod Remaking
 pub mod RetainEffects
 pub mod RetainExamples
 pub mod Seen

@@ -17,8 +17,17 @@
 //! - [`quiet`], `specs/Quiet`: entries that touch no content, which keep the registry whole.
 #![tactic(auto)]
 
+pub mod changes;
+mod comparing;
 pub mod examples;
+mod fitting;
 pub mod laws;
+mod misfits;
+pub mod names;
 pub mod quiet;
+
+pub use fitting::fit;
+pub use misfits::Misfit;
+
 #[cfg(test)]
 mod tests;

@@ -1,0 +1,13 @@
+pub mod Additions
+mod FoundRows
+pub mod IdleRows
+pub mod NamedGrace
+mod PairSteps
+mod PairTables
+pub mod PresentRows
+pub mod Settled
+pub mod Sizes
+pub mod UsedRows
+mod VersionMoves
+pub mod VersionSteps
+pub mod WholeSound

@@ -1,0 +1,3 @@
+pub mod PresentRows
+pub mod UsedRows
+pub mod Versions

@@ -1,0 +1,25 @@
+//! What is promised of the stored bytes.
+
+ghost use Rattle.std.specs.Prelude.{List, ℕ, ◌≡◌, Some};
+ghost use Rattle.hb_text.specs.declared.digests.Digest.{Digest};
+ghost use Rattle.hb_records.specs.Entries.{AuditEntry};
+ghost use Rattle.hb_store.specs.Contents.{Contents};
+ghost use Rattle.hb_records.specs.declared.notes.Notes.{Notes};
+ghost use Rattle.hb_rows.specs.Tables.{Tables};
+ghost use Rattle.hb_model.specs.History.{History};
+ghost use Rattle.hb_model.specs.Registry.{PairItem, pair_in};
+ghost use Rattle.hb_model.specs.Replay.{replay, size_of};
+ghost use Rattle.hb_model.specs.Sound.{IsSound};
+ghost use Rattle.hb_model.specs.Whole.{IsWhole};
+
+/// What a project has counts with the size that is stored.
+pub fn sizes_of_pairs_are_those_stored()
+    ensures { (j : List AuditEntry) → History j → (p : List ℕ) (d : Digest) (x : PairItem)
+        → pair_in (replay j) p d ≡ Some x → size_of j d ≡ Some x.size }
+{}
+
+/// What every event keeps makes the promise: clients see a registry whose content is held.
+pub fn whole_registries_are_sound()
+    ensures { (rows : Tables) (n : Notes) (c : Contents) (t : ℕ) → IsWhole rows n c t
+        → IsSound (replay rows.audit) c }
+{}
