@@ -15,3 +15,6 @@ mod mem_keeper;
 
 pub use keeper::{KeepFault, Keeper};
 pub use mem_keeper::MemKeeper;
+
+#[cfg(test)]
+mod tests;
