@@ -313,7 +313,7 @@ fn the_least_key_that_answers_is_told(rt: HostRuntime) -> Result<(), Fail> {
     ];
     for (name, byte, needing, owner, parent) in rows {
         let (key, project, index) = least(&mut keeper, rt.alloc(), name, byte)?;
-        assert_eq!(rt; key.as_ref().map(|key| key.digest), needing.map(digest));
+        assert_eq!(rt; key.map(|key| key.digest), needing.map(digest));
         assert_eq!(rt; project.as_ref().map(|name| name.bytes()), owner);
         assert_eq!(rt; index, parent.map(digest));
     }
@@ -357,14 +357,18 @@ fn batch(alloc: Global) -> Result<Batch, Fail> {
     })
 }
 
-// The ids of the uploads, the first and the last, and how many entries there are.
-fn state(rows: &Rows) -> (Option<u64>, Option<u64>, usize) {
-    let uploads = rows.uploads();
-    (
-        uploads.first().map(|row| row.id),
-        uploads.last().map(|row| row.id),
-        rows.entries().len(),
-    )
+// The first id, the last, and how many there are.
+fn ids(uploads: &[Upload]) -> (u64, u64, usize) {
+    match uploads {
+        [] => (0, 0, 0),
+        [one] => (one.id, one.id, 1),
+        [first, .., last] => (first.id, last.id, uploads.len()),
+    }
+}
+
+// The ids of the uploads, and how many entries there are.
+fn state(rows: &Rows) -> ((u64, u64, usize), usize) {
+    (ids(rows.uploads()), rows.entries().len())
 }
 
 #[test]
@@ -374,7 +378,7 @@ fn a_commit_is_seen_by_later_reads(rt: HostRuntime) -> Result<(), Fail> {
     assert!(rt; keeper.upload(3)?.is_none());
     assert!(rt; keeper.upload(4)?.is_some());
     assert_eq!(rt; meta(&mut keeper)?, (3, 1_000_003));
-    assert_eq!(rt; state(&keeper.into_rows()), (Some(4), Some(4), 3));
+    assert_eq!(rt; state(&keeper.into_rows()), ((4, 4, 1), 3));
     Ok(())
 }
 
@@ -385,9 +389,9 @@ fn fail_next_fails_one_commit(rt: HostRuntime) -> Result<(), Fail> {
     keeper.fail_next();
     assert_eq!(rt; meta(&mut keeper)?, (2, 1_000_002));
     assert_eq!(rt; keeper.commit(&batch), Err(KeepFault::Failed));
-    assert_eq!(rt; state(keeper.rows()), (Some(3), Some(3), 2));
+    assert_eq!(rt; state(keeper.rows()), ((3, 3, 1), 2));
     assert_eq!(rt; keeper.commit(&batch), Ok(()));
-    assert_eq!(rt; state(keeper.rows()), (Some(4), Some(4), 3));
+    assert_eq!(rt; state(keeper.rows()), ((4, 4, 1), 3));
     assert_eq!(rt; (keeper.script.calls(), keeper.script.faults()), (3, 1));
     Ok(())
 }
@@ -412,30 +416,38 @@ fn made_arguments(alloc: Global) -> Result<Arguments, Fail> {
     })
 }
 
-// The call of this number, of those by keys, or that of the next.
-fn call_by_key(keeper: &mut MemKeeper, with: &Arguments, number: u64) -> Result<(), KeepFault> {
-    match number {
-        1 => keeper.project(&with.project).map(|_row| ()),
-        2 => keeper.blob(&digest(1)).map(|_row| ()),
-        3 => keeper.pair(&with.project, &digest(1)).map(|_row| ()),
-        4 => keeper.artifact(&with.name, &digest(2)).map(|_row| ()),
-        5 => keeper.tag(&with.name, &with.tag).map(|_row| ()),
-        6 => keeper.upload(3).map(|_row| ()),
-        7 => keeper.job(5).map(|_row| ()),
-        8 => keeper.candidate(5, &digest(1)).map(|_row| ()),
-        _ => keeper.snap(5, &with.name, &with.tag).map(|_row| ()),
+// Whether the call was Ok.
+fn outcome<T: Drop>(answer: Result<T, KeepFault>) -> Result<(), KeepFault> {
+    match answer {
+        Ok(_) => Ok(()),
+        Err(fault) => Err(fault),
     }
 }
 
-// The call of this number.
+// The call of this number, of those by keys.
+fn call_by_key(keeper: &mut MemKeeper, with: &Arguments, number: u64) -> Result<(), KeepFault> {
+    match number {
+        1 => outcome(keeper.project(&with.project)),
+        2 => outcome(keeper.blob(&digest(1))),
+        3 => outcome(keeper.pair(&with.project, &digest(1))),
+        4 => outcome(keeper.artifact(&with.name, &digest(2))),
+        5 => outcome(keeper.tag(&with.name, &with.tag)),
+        6 => outcome(keeper.upload(3)),
+        7 => outcome(keeper.job(5)),
+        8 => outcome(keeper.candidate(5, &digest(1))),
+        _ => outcome(keeper.snap(5, &with.name, &with.tag)),
+    }
+}
+
+// The call of this number. The last is the commit.
 fn call(keeper: &mut MemKeeper, with: &Arguments, number: u64) -> Result<(), KeepFault> {
     match number {
-        10 => keeper.unfinished(&with.kind).map(|_row| ()),
-        11 => keeper.needed(&with.project, &digest(1)).map(|_key| ()),
-        12 => keeper.owner(&digest(1)).map(|_name| ()),
-        13 => keeper.parent(&with.name, &digest(2)).map(|_digest| ()),
-        14 => keeper.page(Table::Upload, None).map(|_page| ()),
-        15 => keeper.meta().map(|_meta| ()),
+        10 => outcome(keeper.unfinished(&with.kind)),
+        11 => outcome(keeper.needed(&with.project, &digest(1))),
+        12 => outcome(keeper.owner(&digest(1))),
+        13 => outcome(keeper.parent(&with.name, &digest(2))),
+        14 => outcome(keeper.page(Table::Upload, None)),
+        15 => outcome(keeper.meta()),
         16 => keeper.commit(&with.batch),
         _ => call_by_key(keeper, with, number),
     }
@@ -457,20 +469,16 @@ fn each_call_fails_where_it_is_told(rt: HostRuntime) -> Result<(), Fail> {
         }
         assert_eq!(rt; (keeper.script.calls(), keeper.script.faults()), (16, 1));
         keeper.commit(&with.batch)?;
-        assert_eq!(rt; state(keeper.rows()), (Some(4), Some(4), 3));
+        assert_eq!(rt; state(keeper.rows()), ((4, 4, 1), 3));
     }
     Ok(())
 }
 
-// The uploads of a page: the first id, the last, and how many.
-fn ids(page: &Page) -> (Option<u64>, Option<u64>, usize) {
+// The ids of the uploads of a page.
+fn ids_of_page(page: &Page) -> (u64, u64, usize) {
     match page {
-        Page::Upload(rows) => (
-            rows.as_slice().first().map(|row| row.id),
-            rows.as_slice().last().map(|row| row.id),
-            rows.len(),
-        ),
-        _ => (None, None, 0),
+        Page::Upload(rows) => ids(rows.as_slice()),
+        _ => (0, 0, 0),
     }
 }
 
@@ -482,15 +490,15 @@ fn pages_follow_one_another(rt: HostRuntime) -> Result<(), Fail> {
     }
     let mut keeper = MemKeeper::of(rt.alloc(), rows, Vec::new(rt.alloc()));
     let first = keeper.page(Table::Upload, None)?;
-    assert_eq!(rt; ids(&first), (Some(1), Some(256), 256));
+    assert_eq!(rt; ids_of_page(&first), (1, 256, 256));
     let pages = [
-        (256, (Some(257), Some(512), 256)),
-        (512, (Some(513), Some(600), 88)),
-        (600, (None, None, 0)),
+        (256, (257, 512, 256)),
+        (512, (513, 600, 88)),
+        (600, (0, 0, 0)),
     ];
     for (id, want) in pages {
         let page = keeper.page(Table::Upload, Some(&Key::Upload { id }))?;
-        assert_eq!(rt; ids(&page), want);
+        assert_eq!(rt; ids_of_page(&page), want);
     }
     Ok(())
 }
