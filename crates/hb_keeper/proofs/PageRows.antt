@@ -74,14 +74,14 @@ module _ {Row K : Type 0} {compare : K → K → Ordering} (o : IsTotalOrder com
     behind = subst (AllByRecursion (λ k. IsTrue (is_behind after k))) (sym keys) (behind after rows);
   }
 
-pub IsPageBehind-page : (t : Tables) (which : Table) (after : Option Key) → AreTables t → IsPageBehind which after (page_of t which after)
-IsPageBehind-page t table.Project after h = is_page text_cmp-order.total project_key key_of_project (λ a b. refl) after t.projects h.projects _ _ refl refl
-IsPageBehind-page t table.Blob after h = is_page digest_cmp-order.total blob_key key_of_blob (λ a b. refl) after t.blobs h.blobs _ _ refl refl
-IsPageBehind-page t table.Pair after h = is_page named_digest_cmp-order.total pair_key key_of_pair (λ a b. refl) after t.pairs h.pairs _ _ refl refl
-IsPageBehind-page t table.Artifact after h = is_page named_digest_cmp-order.total artifact_key key_of_artifact (λ a b. refl) after t.artifacts h.artifacts _ _ refl refl
-IsPageBehind-page t table.Tag after h = is_page named_tag_cmp-order.total tag_key key_of_tag (λ a b. refl) after t.tags h.tags _ _ refl refl
-IsPageBehind-page t table.Upload after h = is_page nat_cmp-order.total upload_key key_of_upload (λ a b. refl) after t.uploads h.uploads _ _ refl refl
-IsPageBehind-page t table.Job after h = is_page nat_cmp-order.total job_key key_of_job (λ a b. refl) after t.jobs h.jobs _ _ refl refl
-IsPageBehind-page t table.Candidate after h = is_page job_digest_cmp-order.total candidate_key key_of_candidate (λ a b. refl) after t.candidates h.candidates _ _ refl refl
-IsPageBehind-page t table.Snap after h = is_page job_tag_cmp-order.total snap_key key_of_snap (λ a b. refl) after t.snaps h.snaps _ _ refl refl
-IsPageBehind-page t table.Entry after h = is_page nat_cmp-order.total entry_key key_of_entry (λ a b. refl) after (entries t) h.audit _ _ refl refl
+pub page_is_behind : (t : Tables) (which : Table) (after : Option Key) → AreTables t → IsPageBehind which after (page_of t which after)
+page_is_behind t table.Project after h = is_page text_cmp-order.total project_key key_of_project (λ a b. refl) after t.projects h.projects _ _ refl refl
+page_is_behind t table.Blob after h = is_page digest_cmp-order.total blob_key key_of_blob (λ a b. refl) after t.blobs h.blobs _ _ refl refl
+page_is_behind t table.Pair after h = is_page named_digest_cmp-order.total pair_key key_of_pair (λ a b. refl) after t.pairs h.pairs _ _ refl refl
+page_is_behind t table.Artifact after h = is_page named_digest_cmp-order.total artifact_key key_of_artifact (λ a b. refl) after t.artifacts h.artifacts _ _ refl refl
+page_is_behind t table.Tag after h = is_page named_tag_cmp-order.total tag_key key_of_tag (λ a b. refl) after t.tags h.tags _ _ refl refl
+page_is_behind t table.Upload after h = is_page nat_cmp-order.total upload_key key_of_upload (λ a b. refl) after t.uploads h.uploads _ _ refl refl
+page_is_behind t table.Job after h = is_page nat_cmp-order.total job_key key_of_job (λ a b. refl) after t.jobs h.jobs _ _ refl refl
+page_is_behind t table.Candidate after h = is_page job_digest_cmp-order.total candidate_key key_of_candidate (λ a b. refl) after t.candidates h.candidates _ _ refl refl
+page_is_behind t table.Snap after h = is_page job_tag_cmp-order.total snap_key key_of_snap (λ a b. refl) after t.snaps h.snaps _ _ refl refl
+page_is_behind t table.Entry after h = is_page nat_cmp-order.total entry_key key_of_entry (λ a b. refl) after (entries t) h.audit _ _ refl refl

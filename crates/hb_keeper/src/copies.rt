@@ -2,9 +2,11 @@
 ghost use Rattle.std.specs.Prelude.{◌≡◌, ◌<◌, length, IfOk, IfSome, IfNone};
 ghost use Rattle.std.specs.Option.{option_copied};
 ghost use Rattle.hb_records.specs.Entries.{MOST_ENTRIES};
+ghost use Rattle.hb_rows.specs.Pages.{page_of};
 ghost use Rattle.hb_keeper.specs.Answers.{meta_of};
+ghost use Rattle.hb_keeper.specs.PageKeys.{IsPageBehind};
 
-use hb_records::{MAX_ENTRIES, Memory, Meta};
+use hb_records::{Key, MAX_ENTRIES, Memory, Meta, Page, Table};
 use hb_rows::Rows;
 use hb_text::Duplicate;
 use std::alloc::Global;
@@ -37,4 +39,18 @@ pub fn meta_of(rows: &Rows) -> Option<Meta>
         entries: count,
         latest,
     })
+}
+
+/// The next rows of the table behind the key. That their keys rise is what the tables keep.
+pub fn page_behind(
+    alloc: Global,
+    rows: &Rows,
+    table: Table,
+    after: Option<&Key>,
+) -> Result<Page, Memory>
+    ensures told { IfOk result (λ page. page ≡ page_of rows.now table (option_copied after.entry)) }
+    ensures behind { IfOk result (IsPageBehind table (option_copied after.entry)) }
+{
+    rows.keys_rise();
+    Ok(rows.page(alloc, table, after)?)
 }

@@ -5,7 +5,8 @@
 //! - [`MemKeeper`]: in memory. It tells its rows, and fails at the calls that it is told and nowhere else.
 //!
 //! `specs/Keeps`: what a commit makes of the rows, and when a call fails. `specs/Answers`: the least keys that
-//! answer. `specs/PageKeys`: what holds of every page, also where the rows aren't told.
+//! answer. `specs/PageKeys`: what holds of every page, also where the rows aren't told. `specs/Counts`: when a
+//! call of the keeper in memory fails.
 #![tactic(auto)]
 
 mod answers;
@@ -15,3 +16,6 @@ mod mem_keeper;
 
 pub use keeper::{KeepFault, Keeper};
 pub use mem_keeper::MemKeeper;
+
+#[cfg(test)]
+mod tests;

@@ -10,7 +10,7 @@ ghost use Rattle.hb_keeper.specs.PageKeys.{IsPageBehind};
 ghost use Rattle.hb_keeper.specs.Counts.{Counted, IsScripted};
 
 use crate::answers::{first_needing, first_owning, first_parent, first_unfinished};
-use crate::copies::{copied, meta_of};
+use crate::copies::{copied, meta_of, page_behind};
 use crate::keeper::{KeepFault, Keeper};
 use hb_outside::Script;
 use hb_records::{
@@ -308,10 +308,11 @@ impl Keeper for MemKeeper {
         ensures cause { KeepCause self.old.script.faults self.new.script.faults result }
         ensures scripted { IsScripted self.old self.new result }
     {
+        // For the clause `tables`, which stands after a failure too.
         self.rows.keys_rise();
         if self.script.begin() {
             return Err(KeepFault::Failed);
         }
-        Ok(self.rows.page(self.alloc, table, after)?)
+        Ok(page_behind(self.alloc, &self.rows, table, after)?)
     }
 }
