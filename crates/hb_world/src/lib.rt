@@ -9,6 +9,10 @@
 
 pub mod first;
 mod reading;
+mod starting;
 mod table_rows;
 #[cfg(test)]
 mod tests;
+mod world;
+
+pub use world::{StartFault, StartRefused, World};
