@@ -1,5 +1,6 @@
 pub mod Pieces
 pub mod Requests
+pub mod Running
 pub mod Streams
 pub mod Talking
 pub mod Targets

@@ -71,12 +71,12 @@ KeepsPushed-next start now later pushed Unsupported body first second holds keep
 KeepsPushed-next start now later pushed StorageFailed body first second holds keeps = KeepsPushed-stands start now later pushed first second keeps
 KeepsPushed-next start now later pushed OutOfMemory body first second holds keeps = KeepsPushed-stands start now later pushed first second keeps
 
-Stands-same : (contents : Option Contents) → Stands contents contents
+pub Stands-same : (contents : Option Contents) → Stands contents contents
 Stands-same None = refl
 Stands-same (Some c) = StillHolds-same c
 
 -- of no blob there is nothing to keep
-KeepsPushed-none : (start now : Option Contents) (pushed : List Pushed) → pushed ≡ [] → KeepsPushed start now pushed
+pub KeepsPushed-none : (start now : Option Contents) (pushed : List Pushed) → pushed ≡ [] → KeepsPushed start now pushed
 KeepsPushed-none None now pushed none = tt
 KeepsPushed-none (Some c) None pushed none = λ lapsing. tt
 KeepsPushed-none (Some c) (Some c') pushed none = λ lapsing p there. let length_none : length pushed ≡ 0 = ap length none in absurd (let within = there.1 in omega arith)

@@ -15,6 +15,7 @@ mod tests;
 mod whole;
 
 use crate::run::run;
+use hb_keeper::MemKeeper;
 use hb_outside::{Sink, StdClock, StdSink, StdSource};
 use hb_store::MemStore;
 use hb_text::{Memory, Text};
@@ -49,7 +50,10 @@ fn main(rt: HostRuntime) -> ExitCode {
     };
     let mut clock = StdClock::new(&rt);
     let mut input = StdSource::new(rt.reader());
+    let keeper = MemKeeper::new(alloc, Vec::new(alloc));
     let store = MemStore::new(alloc, Vec::new(alloc));
-    let ended = run(alloc, &words, &mut clock, &mut input, &mut out, store);
+    let ended = run(
+        alloc, &words, &mut clock, &mut input, &mut out, keeper, store,
+    );
     ExitCode::from(ended.status)
 }

@@ -1,22 +1,25 @@
 //! The top call.
-ghost use Rattle.std.specs.Prelude.{◌≡◌, ◌↔◌, [], codes, IsTrue};
+ghost use Rattle.std.specs.Prelude.{◌≡◌, ◌↔◌, ◌≤◌, ◌⊎◌, [], codes, IsTrue};
 ghost use Rattle.hb_outside.specs.Causes.{Rose};
 ghost use Rattle.hb_store.specs.Causes.{StorageRose};
-ghost use Rattle.harbor_core.specs.Runs.{IsTalk, RanTalk, SaysUsage, status_of};
+ghost use Rattle.hb_world.specs.Starting.{CanStart, IsAtRest, IsMisfit};
+ghost use Rattle.harbor_core.specs.Runs.{IsTalk, IsUnstarted, RanTalk, SaysUsage, RowsAfter, NotStarted, status_of, status_of_fault};
 ghost use Rattle.harbor_core.specs.Talks.{now_of};
 
 use crate::ends::TalkEnd;
 use crate::talk::talk;
+use hb_keeper::Keeper;
 use hb_outside::{Clock, Sink, Source};
 use hb_store::Store;
 use hb_text::Text;
-use hb_world::first::World;
+use hb_world::{StartFault, World, first};
 use std::alloc::Global;
 
-/// The exit status of a run, and the store that it hands back.
+/// The exit status of a run, and the devices that it hands back.
 #[derive(Drop)]
-pub struct EndedFirst<S> {
+pub struct Ended<K, S> {
     pub status: u8,
+    pub keeper: K,
     pub store: S,
 }
 
@@ -49,11 +52,43 @@ fn is_talk(words: &[Text]) -> bool
     }
 }
 
-/// Does what the words say over these devices, and hands the store back with an exit status.
+fn status_of_fault(fault: StartFault) -> u8
+    ensures { result ≡ status_of_fault fault }
+{
+    match fault {
+        StartFault::Misfit(_) => 8,
+        StartFault::Failed => 5,
+        StartFault::Memory => 7,
+    }
+}
+
+// Talks over one connection, over a store whose blobs a first world pushes and opens.
+fn converse<S: Store, C: Clock, I: Source, O: Sink>(
+    alloc: Global,
+    clock: &mut C,
+    input: &mut I,
+    out: &mut O,
+    store: S,
+) -> (u8, S)
+    ensures talked { RanTalk (StorageRose S.Stage S.Reader S.Stage.faults S.Reader.faults)
+        (now_of (S.contents store) (S.faults store) [] (I.left input.old) (I.ended input.old) (O.held out.old))
+        (λ pushed. now_of (S.contents result.1) (S.faults result.1) pushed (I.left input.new) (I.ended input.new) (O.held out.new))
+        result.0 }
+    ensures read { result.0 ≡ 3 → Rose (I.faults input.old) (I.faults input.new) }
+    ensures written { result.0 ≡ 4 → Rose (O.faults out.old) (O.faults out.new) }
+{
+    let mut world = first::World::new(alloc, store);
+    let end = talk(alloc, &mut world, clock, input, out);
+    (status_of(end), world.close())
+}
+
+/// Does what the words say over these devices, and hands them back with an exit status.
 ///
-/// The single word `talk` talks over one connection: it reads requests from the input and writes their
-/// answers, until the input ends, a request closes, or a device fails. Other words are status 2, and
-/// `usage` is written.
+/// The single word `talk` starts a world on the devices and talks over one connection: it reads requests from
+/// the input and writes their answers, until the input ends, a request closes, or a device fails. Other words
+/// are status 2, and `usage` is written. A start that is refused reads and writes nothing, and leaves the rows.
+///
+/// Devices at rest are at rest again when they are handed back, whatever the status.
 ///
 /// | status | comes |
 /// |---|---|
@@ -61,35 +96,59 @@ fn is_talk(words: &[Text]) -> bool
 /// | 2 | exactly for other words than `talk` |
 /// | 3 | only where the source's count of faults rose |
 /// | 4 | only where the sink's count of faults rose |
+/// | 5 | only where the keeper's count of faults rose, at the start |
 /// | 7 | want of memory, freely |
+/// | 8 | the rows don't fit, and nothing else but 5 and 7 comes then |
 /// | 10 | as many bytes were read as a connection may send, 2^62 |
 /// | 11 | the input ended inside a request, or is malformed or above the limits of a head |
-pub fn run<S: Store, C: Clock, I: Source, O: Sink>(
+pub fn run<K: Keeper, S: Store, C: Clock, I: Source, O: Sink>(
     alloc: Global,
     words: &[Text],
     clock: &mut C,
     input: &mut I,
     out: &mut O,
+    keeper: K,
     store: S,
-) -> EndedFirst<S>
+) -> Ended<K, S>
+    requires can { CanStart (K.rows keeper) (S.contents store) }
     // What is written are the answers of the requests that were read, each by its cause.
-    ensures talked { IsTalk words.now → RanTalk (StorageRose S.Stage S.Reader S.Stage.faults S.Reader.faults)
+    ensures talked { IsTalk words.now → ¬ (IsUnstarted result.status) → RanTalk (StorageRose S.Stage S.Reader S.Stage.faults S.Reader.faults)
         (now_of (S.contents store) (S.faults store) [] (I.left input.old) (I.ended input.old) (O.held out.old))
         (λ pushed. now_of (S.contents result.store) (S.faults result.store) pushed (I.left input.new) (I.ended input.new) (O.held out.new))
         result.status }
+    ensures unstarted { IsTalk words.now → IsUnstarted result.status → NotStarted (input.new ≡ input.old) (out.new ≡ out.old) (result.store ≡ store) (K.rows result.keeper ≡ K.rows keeper) }
+    ensures rows { IsTalk words.now → RowsAfter (K.rows keeper) (K.rows result.keeper) result.status }
+    ensures misfit { IsTalk words.now → IsMisfit (K.rows keeper) → (result.status ≡ 8) ⊎ (result.status ≡ 5) ⊎ (result.status ≡ 7) }
+    ensures rest { IsAtRest (K.rows keeper) (S.contents store) → IsAtRest (K.rows result.keeper) (S.contents result.store) }
     ensures words { (result.status ≡ 2) ↔ ¬ (IsTalk words.now) }
-    ensures usage { ¬ (IsTalk words.now) → SaysUsage (O.held out.old) (O.held out.new) (O.faults out.old) (O.faults out.new) × (input.new ≡ input.old) × (result.store ≡ store) }
+    ensures usage { ¬ (IsTalk words.now) → SaysUsage (O.held out.old) (O.held out.new) (O.faults out.old) (O.faults out.new) × (input.new ≡ input.old) × (result.keeper ≡ keeper) × (result.store ≡ store) }
     ensures read { result.status ≡ 3 → Rose (I.faults input.old) (I.faults input.new) }
     ensures written { result.status ≡ 4 → Rose (O.faults out.old) (O.faults out.new) }
+    ensures failed { result.status ≡ 5 → Rose (K.faults keeper) (K.faults result.keeper) }
+    ensures later { K.faults keeper ≤ K.faults result.keeper }
 {
     if !is_talk(words) {
         let _written = out.write(b"usage\n");
-        return EndedFirst { status: 2, store };
+        return Ended {
+            status: 2,
+            keeper,
+            store,
+        };
     }
-    let mut world = World::new(alloc, store);
-    let end = talk(alloc, &mut world, clock, input, out);
-    EndedFirst {
-        status: status_of(end),
-        store: world.close(),
+    match World::start(alloc, keeper, store, clock.now()) {
+        Ok(world) => {
+            let (keeper, store) = world.close();
+            let (status, store) = converse(alloc, clock, input, out, store);
+            Ended {
+                status,
+                keeper,
+                store,
+            }
+        }
+        Err(refused) => Ended {
+            status: status_of_fault(refused.fault),
+            keeper: refused.keeper,
+            store: refused.store,
+        },
     }
 }

@@ -1,7 +1,16 @@
-use crate::run::run;
+ghost use Rattle.std.specs.Prelude.{◌≡◌, IfOk, Some};
+ghost use Rattle.hb_rows.specs.Tables.{empty_tables};
+ghost use Rattle.hb_store.specs.MemStores.{contents_of};
+ghost use Rattle.hb_world.specs.Starting.{IsAtRest, IsMisfit};
+
+use crate::run::{Ended, run};
+use hb_keeper::MemKeeper;
+use hb_model::fit;
 use hb_outside::{MemSink, MemSource, StepClock};
+use hb_records::{Entry, EntryKind, ImmuteList, Listed, Project, RetainList, Row, Rules};
+use hb_rows::Rows;
 use hb_store::MemStore;
-use hb_text::Text;
+use hb_text::{ProjectName, Text};
 use std::alloc::Global;
 use std::test::Fail;
 
@@ -34,7 +43,9 @@ fn talk(
     reads: Vec<u64>,
     writes: Vec<u64>,
     store: MemStore,
-) -> Result<(u8, Vec<u8>), Fail> {
+) -> Result<(u8, Vec<u8>), Fail>
+    requires { IsAtRest (Some empty_tables) (Some (contents_of store)) }
+{
     let words = vec![in alloc; Text::new(alloc, b"talk")?]?;
     let cuts = vec![in alloc; cut; 2_000]?;
     let mut source = MemSource::new(Vec::from_slice(alloc, input)?, cuts, reads);
@@ -45,6 +56,7 @@ fn talk(
         &mut StepClock::new(5, 1),
         &mut source,
         &mut sink,
+        MemKeeper::new(alloc, Vec::new(alloc)),
         store,
     );
     Ok((ended.status, Vec::from_slice(alloc, sink.bytes())?))
@@ -250,10 +262,135 @@ fn other_words_are_answered_with_usage(rt: HostRuntime) -> Result<(), Fail> {
             &mut StepClock::new(5, 1),
             &mut source,
             &mut sink,
+            MemKeeper::new(alloc, Vec::new(alloc)),
             store,
         );
         assert_eq!(rt; ended.status, 2);
         assert_eq!(rt; sink.bytes(), b"usage\n".as_slice());
     }
+    Ok(())
+}
+
+// A push and its pull over this keeper: how it ends, and what was written.
+fn over(
+    alloc: Global,
+    keeper: MemKeeper,
+    store: MemStore,
+) -> Result<(Ended<MemKeeper, MemStore>, Vec<u8>), Fail>
+    requires { IsAtRest (Some keeper.rows) (Some (contents_of store)) }
+    ensures { IfOk result (λ made. IsAtRest (Some made.0.keeper.rows) (Some (contents_of made.0.store))) }
+{
+    let words = vec![in alloc; Text::new(alloc, b"talk")?]?;
+    let input = joined(alloc, &[PUSH, PULL])?;
+    let mut source = MemSource::new(input, Vec::new(alloc), Vec::new(alloc));
+    let mut sink = MemSink::new(alloc, 10_000, Vec::new(alloc))?;
+    let mut clock = StepClock::new(5, 1);
+    let ended = run(
+        alloc,
+        &words,
+        &mut clock,
+        &mut source,
+        &mut sink,
+        keeper,
+        store,
+    );
+    Ok((ended, Vec::from_slice(alloc, sink.bytes())?))
+}
+
+// The rows of a registry whose one entry makes the project `library`, which says that it uses so much.
+fn rows_that_use(alloc: Global, used: u128) -> Result<Rows, Fail> {
+    let mut rows = Rows::new(alloc);
+    let name = ProjectName::read(alloc, b"library")?;
+    rows.set(Row::Project(Project {
+        name,
+        limit: -1,
+        used,
+        rules: Rules {
+            immutes: ImmuteList::of(Listed::new(alloc)),
+            retains: RetainList::of(Listed::new(alloc)),
+        },
+        version: 1,
+    }))?;
+    let project = ProjectName::read(alloc, b"library")?;
+    rows.set(Row::Entry(Entry {
+        number: 1,
+        moment: 3,
+        kind: EntryKind::ProjectMade { project, limit: -1 },
+    }))?;
+    Ok(rows)
+}
+
+// What a run over rows that don't fit ends with, how many entries they have then, and what was written.
+fn refused(alloc: Global, rows: Rows) -> Result<(u8, usize, usize), Fail>
+    requires { IsMisfit (Some rows) }
+{
+    let words = vec![in alloc; Text::new(alloc, b"talk")?]?;
+    let input = joined(alloc, &[PUSH, PULL])?;
+    let mut source = MemSource::new(input, Vec::new(alloc), Vec::new(alloc));
+    let mut sink = MemSink::new(alloc, 10_000, Vec::new(alloc))?;
+    let mut clock = StepClock::new(5, 1);
+    let keeper = MemKeeper::of(alloc, rows, Vec::new(alloc));
+    let store = MemStore::new(alloc, Vec::new(alloc));
+    let ended = run(
+        alloc,
+        &words,
+        &mut clock,
+        &mut source,
+        &mut sink,
+        keeper,
+        store,
+    );
+    Ok((
+        ended.status,
+        ended.keeper.rows().entries().len(),
+        sink.bytes().len(),
+    ))
+}
+
+#[test]
+fn rows_that_do_not_fit_end_a_run(rt: HostRuntime) -> Result<(), Fail> {
+    let alloc = rt.alloc();
+    let rows = rows_that_use(alloc, 1)?;
+    match fit(alloc, &rows)? {
+        Some(_misfit) => assert_eq!(rt; refused(alloc, rows)?, (8, 1, 0)),
+        None => assert_eq!(rt; 0, 8),
+    }
+    Ok(())
+}
+
+// Of a keeper that fails at a call of the start nothing is read; later it works.
+#[test]
+fn a_keeper_that_fails_ends_a_run(rt: HostRuntime) -> Result<(), Fail> {
+    let alloc = rt.alloc();
+    for call in [1, 10, 11] {
+        let keeper = MemKeeper::new(alloc, vec![in alloc; call]?);
+        let (ended, said) = over(alloc, keeper, MemStore::new(alloc, Vec::new(alloc)))?;
+        assert_eq!(rt; ended.status, 5);
+        assert_eq!(rt; said.len(), 0);
+        let (ended, said) = over(alloc, ended.keeper, ended.store)?;
+        assert_eq!(rt; ended.status, 0);
+        assert_eq!(rt;
+            said.as_slice(),
+            joined(alloc, &[CREATED, PULLED])?.as_slice()
+        );
+    }
+    Ok(())
+}
+
+#[test]
+fn a_run_starts_on_what_another_left(rt: HostRuntime) -> Result<(), Fail> {
+    let alloc = rt.alloc();
+    let keeper = MemKeeper::new(alloc, Vec::new(alloc));
+    let (first, _said) = over(alloc, keeper, MemStore::new(alloc, Vec::new(alloc)))?;
+    assert_eq!(rt; first.status, 0);
+    assert_eq!(rt; first.keeper.rows().entries().len(), 1);
+    let (second, said) = over(alloc, first.keeper, first.store)?;
+    assert_eq!(rt; second.status, 0);
+    assert_eq!(rt;
+        said.as_slice(),
+        joined(alloc, &[CREATED, PULLED])?.as_slice()
+    );
+    assert_eq!(rt; second.keeper.rows().entries().len(), 1);
+    assert_eq!(rt; second.keeper.rows().projects().len(), 1);
     Ok(())
 }
