@@ -1,13 +1,13 @@
 -- The clause of every event of a desk: what contracts see of a desk, and what one event makes of it.
-use Rattle.std.specs.Prelude.{◌≡◌, ◌≤◌, ◌<◌, ◌⊎◌, ◌^◌, ℕ, suc, min, Bool, true, false, List, [], ◌∷◌, length, Option, Some, None, is_some, IfSome, IsSomeAnd, Result, Ok, Err}
+use Rattle.std.specs.Prelude.{◌≡◌, ◌≤◌, ◌<◌, ◌⊎◌, ◌^◌, ℕ, suc, min, Bool, true, false, List, [], ◌∷◌, length, Option, Some, None, is_some, nat_eq, IfSome, Result, Ok, Err}
 use Rattle.hb_outside.specs.Causes.{Rose}
 use Rattle.hb_records.specs.Entries.{LAST_MOMENT}
 use Rattle.hb_records.specs.declared.notes.Sealed.{Sealed}
 use Rattle.hb_model.specs.History.{History, latest}
-use Rattle.hb_desk.specs.Calls.{Call, Gave, Outcome}
+use Rattle.hb_desk.specs.Calls.{Call, Asked, StagePlaced, Outcome}
 use Rattle.hb_desk.specs.Events.{Event, entry_of, happens, after}
 use Rattle.hb_desk.specs.Notes.{sealed_at}
-use Rattle.hb_desk.specs.Reply.{Reply, reply}
+use Rattle.hb_desk.specs.Reply.{reply}
 use Rattle.hb_desk.specs.State.{State}
 use Rattle.hb_desk.specs.declared.asks.Ask.{Ask}
 use Rattle.hb_desk.specs.declared.asks.Ask.TheVariants.{Seal, SealManifest}
@@ -70,8 +70,15 @@ pub record Known (v : View) (s : State) : Type 0 where
   pub later : latest s.audit ≤ v.moment
   pub count : v.entries ≡ length s.audit
 
+-- the call may change what is sealed of this upload
+abbrev pub moves_seal : ℕ → Call → Bool
+moves_seal u (Asked (Seal upload d size)) = nat_eq u upload
+moves_seal u (Asked (SealManifest upload put)) = nat_eq u upload
+moves_seal u (StagePlaced upload d) = nat_eq u upload
+moves_seal u call = false
+
 -- Its numbers and causes, which hold of every desk.
-pub record Causes (old new : View) (now : ℕ) (outcome : Outcome) : Type 0 where
+pub record Causes (old new : View) (now : ℕ) (call : Call) (outcome : Outcome) : Type 0 where
   pub keeper_later : old.keeper_faults ≤ new.keeper_faults
   pub store_later : old.store_faults ≤ new.store_faults
   pub keeper : outcome ≡ Err Keeper → Rose old.keeper_faults new.keeper_faults
@@ -81,6 +88,7 @@ pub record Causes (old new : View) (now : ℕ) (outcome : Outcome) : Type 0 wher
   pub entries : old.entries ≤ new.entries
   pub room : new.entries ≤ 2 ^ 62
   pub rises : old.moment ≤ new.moment
+  pub sealed : (u : ℕ) (x : Sealed) → moves_seal u call ≡ false → sealed_at u old.sealed ≡ Some x → sealed_at u new.sealed ≡ Some x
   pub moment : may_be_unmade new.spent outcome ≡ false → min now LAST_MOMENT ≤ new.moment
   pub sole : new.sole ≡ old.sole
   pub told_bytes : new.told_bytes ≡ old.told_bytes

@@ -14,7 +14,7 @@ use Rattle.hb_model.specs.Presence.{present, last_taking, usage}
 use Rattle.hb_model.specs.LegalBlobs.{fits_limit}
 use Rattle.hb_desk.specs.Notes.{is_out}
 use Rattle.hb_desk.specs.declared.refusals.Refusal.{Refusal}
-use Rattle.hb_desk.specs.declared.refusals.Refusal.TheVariants.{Spent, NoProject, UploadUnknown, Busy, OutOfOrder, MissingRef, MissingChild, Immutable, OverLimit, Collecting, Raced, NotPlaced}
+use Rattle.hb_desk.specs.declared.refusals.Refusal.TheVariants.{Spent, NoProject, UploadUnknown, Busy, OutOfOrder, MissingRef, MissingChild, Immutable, OverLimit, Collecting, Raced}
 
 -- the refusal, unless it holds
 abbrev pub unless : Bool → Refusal → Option Refusal
@@ -71,9 +71,6 @@ over_limit j p d size = if fits_limit j p d size then None else option_map (λ (
 abbrev pub still_collecting : List AuditEntry → Digest → ℕ → Option Refusal
 still_collecting j d t = option_and_then (λ taking. unless (not (nat_lt t (taking.moment + WINDOW))) (Collecting (taking.moment + WINDOW))) (last_taking j d)
 
-abbrev pub not_placed : Option Placement → Option Refusal
-not_placed placement = unless (is_some placement) NotPlaced
-
 -- it isn't present, and it was taken or collected since it was placed
-abbrev pub raced : List AuditEntry → Placement → Option Refusal
-raced j x = unless (present j x.digest || nat_eq x.gone 0) (Raced x.placed x.gone)
+abbrev pub raced : List AuditEntry → Digest → Placement → Option Refusal
+raced j d x = unless (present j d || nat_eq x.gone 0) (Raced x.placed x.gone)

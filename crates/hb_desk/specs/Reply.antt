@@ -16,7 +16,7 @@ use Rattle.hb_model.specs.Presence.{present, usage}
 use Rattle.hb_desk.specs.Calls.{Call, Asked, StageTaken, StagePlaced, StageDropped, BlobOpened, ManifestOpened, Gave, Tells, StageAt, Number, Dropped, Content, Outcome}
 use Rattle.hb_desk.specs.Notes.{is_out, placement_of}
 use Rattle.hb_desk.specs.ProjectVersions.{project_version}
-use Rattle.hb_desk.specs.Refusing.{spent, no_project, no_upload, no_upload_of, busy, out_of_order, missing_ref, missing_child, immutable_tag, over_limit, still_collecting, not_placed, raced}
+use Rattle.hb_desk.specs.Refusing.{spent, no_project, no_upload, no_upload_of, busy, out_of_order, missing_ref, missing_child, immutable_tag, over_limit, still_collecting, raced}
 use Rattle.hb_desk.specs.State.{State}
 use Rattle.hb_desk.specs.declared.asks.Ask.{Ask}
 use Rattle.hb_desk.specs.declared.asks.Ask.TheVariants.{ShowProject, BeginUpload, EndUpload, Seal, SealManifest, Settle, PutArtifact, NotePull}
@@ -70,16 +70,16 @@ seal_manifest j t upload put =
     (commits j told.Done (entry.UploadEnded 0 upload)))))))
 
 -- what is settled has the size that is stored, and else the placement's
-abbrev pub settled_size : List AuditEntry → Placement → ℕ
-settled_size j x = unwrap_or (if present j x.digest then size_of j x.digest else None) x.size
+abbrev pub settled_size : List AuditEntry → Digest → Placement → ℕ
+settled_size j d x = unwrap_or (if present j d then size_of j d else None) x.size
 
-abbrev pub settle : List AuditEntry → ℕ → List ℕ → Option Placement → Reply
-settle j t name None = refused NotPlaced
-settle j t name (Some x) =
-    refuse (over_limit j (project_of name) x.digest (settled_size j x))
-    (refuse (still_collecting j x.digest t)
-    (refuse (raced j x)
-    (commits j told.Done (entry.Associated (project_of name) x.digest (settled_size j x)))))
+abbrev pub settle : List AuditEntry → ℕ → List ℕ → Digest → Option Placement → Reply
+settle j t name d None = refused NotPlaced
+settle j t name d (Some x) =
+    refuse (over_limit j (project_of name) d (settled_size j d x))
+    (refuse (still_collecting j d t)
+    (refuse (raced j d x)
+    (commits j told.Done (entry.Associated (project_of name) d (settled_size j d x)))))
 
 abbrev pub put : List AuditEntry → ℕ → PutAsk → Option Placement → Reply
 put j t p None = refused NotPlaced
@@ -87,10 +87,10 @@ put j t p (Some x) =
     refuse (missing_ref j (project_of p.name) p.refs)
     (refuse (missing_child j p.name p.children)
     (refuse (immutable_tag j p.name p.digest p.tag)
-    (refuse (over_limit j (project_of p.name) p.digest (settled_size j x))
+    (refuse (over_limit j (project_of p.name) p.digest (settled_size j p.digest x))
     (refuse (still_collecting j p.digest t)
-    (refuse (raced j x)
-    (commits j told.Done (entry.ArtifactPut p.name p.digest (settled_size j x) p.media p.refs p.children p.tag)))))))
+    (refuse (raced j p.digest x)
+    (commits j told.Done (entry.ArtifactPut p.name p.digest (settled_size j p.digest x) p.media p.refs p.children p.tag)))))))
 
 abbrev pub reply_ask : Ask → State → ℕ → Reply
 reply_ask (ShowProject name) s t = show_project s.audit name (project_in (replay s.audit) name)
@@ -98,7 +98,7 @@ reply_ask (BeginUpload name) s t = refuse (no_project s.audit (project_of name))
 reply_ask (EndUpload job upload) s t = if nat_eq job 0 then end_upload s.audit upload else refused JobUnknown
 reply_ask (Seal upload d size) s t = seal s.audit t upload d size (upload_in (replay s.audit) upload)
 reply_ask (SealManifest upload p) s t = seal_manifest s.audit t upload p
-reply_ask (Settle name upload d) s t = refuse (no_project s.audit (project_of name)) (settle s.audit t name (placement_of s.notes upload d))
+reply_ask (Settle name upload d) s t = refuse (no_project s.audit (project_of name)) (settle s.audit t name d (placement_of s.notes upload d))
 reply_ask (PutArtifact upload p) s t = refuse (no_project s.audit (project_of p.name)) (put s.audit t p (placement_of s.notes upload p.digest))
 reply_ask (NotePull name d) s t = if is_some (artifact_in (replay s.audit) name d) then commits s.audit told.Done (entry.Pulled name d) else gives (Tells told.Nothing)
 

@@ -32,7 +32,7 @@ pub trait Desk {
     /// Asks for what takes no stage and no reader.
     fn ask(&mut self, ask: &Ask, now: u64) -> Result<Told, Refusal>
         ensures event { EventOf (view self.old) (view self.new) (Asked ask.now) (plain Tells result) }
-        ensures causes { Causes (view self.old) (view self.new) now (plain Tells result) }
+        ensures causes { Causes (view self.old) (view self.new) now (Asked ask.now) (plain Tells result) }
         ensures seals { Seals ask.now result (view self.new).sealed };
 
     /// Gives the stage of an upload of the repository, with the bytes that were acknowledged. A `start` that isn't
@@ -45,7 +45,7 @@ pub trait Desk {
         now: u64,
     ) -> Result<Staged<Self::Stage>, Refusal>
         ensures event { EventOf (view self.old) (view self.new) (StageTaken name.now upload start) (plain (λ s. StageAt s.offset) result) }
-        ensures causes { Causes (view self.old) (view self.new) now (plain (λ s. StageAt s.offset) result) }
+        ensures causes { Causes (view self.old) (view self.new) now (StageTaken name.now upload start) (plain (λ s. StageAt s.offset) result) }
         ensures made { IfOk result (λ s. (Self.Stage.upload s.stage ≡ upload) × (Self.Stage.size s.stage ≡ s.offset)) }
         ensures bytes { (view self.old).told_bytes ≡ true → IfOk result (λ s. IsSomeAnd (Self.Stage.bytes s.stage) (λ b. length b ≡ s.offset)) };
 
@@ -62,7 +62,7 @@ pub trait Desk {
         requires stage { Self.Stage.upload stage ≡ upload }
         requires bytes { (view self.old).told_bytes ≡ true → IsSomeAnd (Self.Stage.bytes stage) (λ b. (digest_of b ≡ digest.now) × (length b ≡ Self.Stage.size stage)) }
         ensures event { EventOf (view self.old) (view self.new) (StagePlaced upload digest.now) (plain Number result) }
-        ensures causes { Causes (view self.old) (view self.new) now (plain Number result) };
+        ensures causes { Causes (view self.old) (view self.new) now (StagePlaced upload digest.now) (plain Number result) };
 
     /// Ends the stage of an upload. With a stage in hand that one is given up; without one, it is refused where
     /// the stage is out or the upload is there.
@@ -74,7 +74,7 @@ pub trait Desk {
     ) -> Result<(), Refusal>
         requires stage { IfSome stage (λ s. Self.Stage.upload s ≡ upload) }
         ensures event { EventOf (view self.old) (view self.new) (StageDropped upload (is_some stage)) (plain (λ _. Dropped) result) }
-        ensures causes { Causes (view self.old) (view self.new) now (plain (λ _. Dropped) result) };
+        ensures causes { Causes (view self.old) (view self.new) now (StageDropped upload (is_some stage)) (plain (λ _. Dropped) result) };
 
     /// Opens a blob that the repository's project has.
     fn open_blob(
@@ -84,7 +84,7 @@ pub trait Desk {
         now: u64,
     ) -> Result<Opened<Self::Reader>, Refusal>
         ensures event { EventOf (view self.old) (view self.new) (BlobOpened name.now digest.now) (plain (λ o. Content o.digest o.size o.media) result) }
-        ensures causes { Causes (view self.old) (view self.new) now (plain (λ o. Content o.digest o.size o.media) result) }
+        ensures causes { Causes (view self.old) (view self.new) now (BlobOpened name.now digest.now) (plain (λ o. Content o.digest o.size o.media) result) }
         ensures bytes { (view self.old).told_bytes ≡ true → IfOk result (λ o. IsSomeAnd (Self.Reader.bytes o.reader) (λ b. (digest_of b ≡ o.digest) × (length b ≡ Self.Reader.left o.reader))) }
         ensures length { one_length self.new → IfOk result (λ o. Self.Reader.left o.reader ≡ o.size) };
 
@@ -96,7 +96,7 @@ pub trait Desk {
         now: u64,
     ) -> Result<Opened<Self::Reader>, Refusal>
         ensures event { EventOf (view self.old) (view self.new) (ManifestOpened name.now reference.now) (plain (λ o. Content o.digest o.size o.media) result) }
-        ensures causes { Causes (view self.old) (view self.new) now (plain (λ o. Content o.digest o.size o.media) result) }
+        ensures causes { Causes (view self.old) (view self.new) now (ManifestOpened name.now reference.now) (plain (λ o. Content o.digest o.size o.media) result) }
         ensures bytes { (view self.old).told_bytes ≡ true → IfOk result (λ o. IsSomeAnd (Self.Reader.bytes o.reader) (λ b. (digest_of b ≡ o.digest) × (length b ≡ Self.Reader.left o.reader))) }
         ensures length { one_length self.new → IfOk result (λ o. Self.Reader.left o.reader ≡ o.size) };
 
