@@ -4,11 +4,13 @@
 mod asks;
 mod desk;
 mod gave;
+mod laws;
 mod refusals;
 mod told;
 
 pub use asks::Ask;
 pub use desk::Desk;
 pub use gave::{Opened, Staged};
+pub use laws::{events_keep_a_history, what_is_replied_is_legal, what_was_seen_stays};
 pub use refusals::Refusal;
 pub use told::Told;
