@@ -105,10 +105,10 @@ none-takes p f xs h = go (list_any p xs) refl
   where
     go : (b : Bool) → list_any p xs ≡ b → b ≡ false
     go true is =
-      let less = any-placed p xs is in
-      let within : nat_lt (position_or_len p xs) (length xs) ≡ true = grind (arith, nat_tests) in
-      let none : option_map f (Some (position_or_len p xs)) ≡ None = ap (λ t. option_map f (cond t (Some (position_or_len p xs)) None)) (sym within) ∙ h in
-      cc none
+        let less = any-placed p xs is in
+        let within : nat_lt (position_or_len p xs) (length xs) ≡ true = grind (arith, nat_tests) in
+        let none : option_map f (Some (position_or_len p xs)) ≡ None = ap (λ t. option_map f (cond t (Some (position_or_len p xs)) None)) (sym within) ∙ h in
+        cc none
     go false is = refl
 
 may-move : (same : Bool) (name tag : List ℕ) (project : Option ProjectItem) → is_some project ≡ true → cond same None (option_and_then (rule_refusal name tag) project) ≡ None → (same || not (some_and (λ project. is_immutable project.rules name tag) project)) ≡ true
@@ -169,7 +169,7 @@ settle-legal j t name d (Some x) kind later known h =
     let b = no-refusal (still_collecting j d t) _ kind a.1 in
     let c = no-refusal (raced j d x) _ kind b.1 in
     is-legal j t kind later (begun-project j (project_of name) known)
-      (subst (LegalKind j t) (committed j told.Done (entry.Associated (project_of name) d (settled_size j d x)) kind c.1) (associates j t (project_of name) d x known a.0 b.0))
+    (subst (LegalKind j t) (committed j told.Done (entry.Associated (project_of name) d (settled_size j d x)) kind c.1) (associates j t (project_of name) d x known a.0 b.0))
 
 put-legal : (j : List AuditEntry) (t : ℕ) (p : PutAsk) (x : Option Placement) (kind : EntryKind) → latest j ≤ t → is_some (project_in (replay j) (project_of p.name)) ≡ true → Makes (put j t p x) kind → LegalNext j t kind
 put-legal j t p None kind later known h = cc h
@@ -181,12 +181,12 @@ put-legal j t p (Some x) kind later known h =
     let e = no-refusal (still_collecting j p.digest t) _ kind d.1 in
     let f = no-refusal (raced j p.digest x) _ kind e.1 in
     is-legal j t kind later (begun-project j (project_of p.name) known)
-      (subst (LegalKind j t) (committed j told.Done (entry.ArtifactPut p.name p.digest (settled_size j p.digest x) p.media p.refs p.children p.tag) kind f.1) (record {
-        own = associates j t (project_of p.name) p.digest x known d.0 e.0;
-        has_refs = none-missing (λ r. is_some (pair_in (replay j) (project_of p.name) r)) _ p.refs a.0;
-        has_children = none-missing (λ r. is_some (artifact_in (replay j) p.name r)) _ p.children b.0;
-        may_set = may-tag j p.name p.digest p.tag known c.0;
-      }))
+    (subst (LegalKind j t) (committed j told.Done (entry.ArtifactPut p.name p.digest (settled_size j p.digest x) p.media p.refs p.children p.tag) kind f.1) (record {
+      own = associates j t (project_of p.name) p.digest x known d.0 e.0;
+      has_refs = none-missing (λ r. is_some (pair_in (replay j) (project_of p.name) r)) _ p.refs a.0;
+      has_children = none-missing (λ r. is_some (artifact_in (replay j) p.name r)) _ p.children b.0;
+      may_set = may-tag j p.name p.digest p.tag known c.0;
+    }))
 
 show-none : (j : List AuditEntry) (p : List ℕ) (x : Option ProjectItem) (kind : EntryKind) → Makes (show_project j p x) kind → ⊥
 show-none j p None kind h = cc h
@@ -239,17 +239,37 @@ module _ (kind : EntryKind) where
   artifact-none None h = cc h
   artifact-none (Some x) h = cc h
 
-pub reply-legal : (s : State) (call : Call) (t : ℕ) (kind : EntryKind) → latest s.audit ≤ t → (reply call s t).entry ≡ Some kind → LegalNext s.audit t kind
-reply-legal s (Asked ask) t kind later h = ask-legal ask s t kind later h
-reply-legal s (StageTaken name upload start) t kind later h =
+-- an ask, which may make an entry
+abbrev pub is_ask : Call → Bool
+is_ask (Asked ask) = true
+is_ask call = false
+
+makes-none : (s : State) (call : Call) (t : ℕ) (kind : EntryKind) → is_ask call ≡ false → Makes (reply call s t) kind → ⊥
+makes-none s (Asked ask) t kind other h = cc other
+makes-none s (StageTaken name upload start) t kind other h =
     let a = no-refusal (no_project s.audit (project_of name)) _ kind h in
     let b = no-refusal (no_upload_of s.audit name upload) _ kind a.1 in
-    absurd (stage-none kind s upload start (upload_in (replay s.audit) upload) b.1)
-reply-legal s (StagePlaced upload d) t kind later h = let a = no-refusal (still_collecting s.audit d t) _ kind h in cc a.1
-reply-legal s (StageDropped upload handed) t kind later h = absurd (drop-none kind s upload handed h)
-reply-legal s (BlobOpened name d) t kind later h =
+    stage-none kind s upload start (upload_in (replay s.audit) upload) b.1
+makes-none s (StagePlaced upload d) t kind other h = let a = no-refusal (still_collecting s.audit d t) _ kind h in cc a.1
+makes-none s (StageDropped upload handed) t kind other h = drop-none kind s upload handed h
+makes-none s (BlobOpened name d) t kind other h =
     let a = no-refusal (no_project s.audit (project_of name)) _ kind h in
-    absurd (pair-none kind (pair_in (replay s.audit) (project_of name) d) a.1)
-reply-legal s (ManifestOpened name ref) t kind later h =
+    pair-none kind (pair_in (replay s.audit) (project_of name) d) a.1
+makes-none s (ManifestOpened name ref) t kind other h =
     let a = no-refusal (no_project s.audit (project_of name)) _ kind h in
-    absurd (artifact-none kind (named_by (replay s.audit) name ref) a.1)
+    artifact-none kind (named_by (replay s.audit) name ref) a.1
+
+pub no-entry : (call : Call) → is_ask call ≡ false → (s : State) (t : ℕ) → (reply call s t).entry ≡ None
+no-entry call other s t = go (reply call s t).entry (λ kind h. makes-none s call t kind other h)
+  where
+    go : (made : Option EntryKind) → ((kind : EntryKind) → made ≡ Some kind → ⊥) → made ≡ None
+    go None none = refl
+    go (Some kind) none = absurd (none kind refl)
+
+pub reply-legal : (s : State) (call : Call) (t : ℕ) (kind : EntryKind) → latest s.audit ≤ t → (reply call s t).entry ≡ Some kind → LegalNext s.audit t kind
+reply-legal s (Asked ask) t kind later h = ask-legal ask s t kind later h
+reply-legal s (StageTaken name upload start) t kind later h = absurd (makes-none s (StageTaken name upload start) t kind refl h)
+reply-legal s (StagePlaced upload d) t kind later h = absurd (makes-none s (StagePlaced upload d) t kind refl h)
+reply-legal s (StageDropped upload handed) t kind later h = absurd (makes-none s (StageDropped upload handed) t kind refl h)
+reply-legal s (BlobOpened name d) t kind later h = absurd (makes-none s (BlobOpened name d) t kind refl h)
+reply-legal s (ManifestOpened name ref) t kind later h = absurd (makes-none s (ManifestOpened name ref) t kind refl h)

@@ -1,8 +1,9 @@
 -- What contracts see of a caller that isn't alone.
-use Rattle.std.specs.Prelude.{ℕ, Bool, false, List, Option, Some, None, ◌∷◌, nat_eq}
+use Rattle.std.specs.Prelude.{◌≡◌, ◌≤◌, ℕ, Bool, false, List, Option, Some, None, ◌∷◌, nat_eq}
 use Rattle.std.specs.List.{list_any}
 use Rattle.hb_records.specs.declared.notes.Sealed.{Sealed}
 use Rattle.hb_desk.specs.Clause.{View}
+use Rattle.hb_desk.specs.Notes.{sealed_at}
 use Rattle.hb_desk.specs.declared.asks.Ask.{Ask}
 use Rattle.hb_desk.specs.declared.asks.Ask.TheVariants.{Seal, SealManifest}
 
@@ -43,3 +44,8 @@ seal_of ask = None
 abbrev pub with_seal : Option Sealed → List Sealed → List Sealed
 with_seal None sealed = sealed
 with_seal (Some x) sealed = x ∷ sealed
+
+-- what is always known of such a caller: its last number is one of an entry, and what it sealed the desk has sealed
+pub record AloneKnows (v : View) (last : ℕ) (sealed : List Sealed) : Type 0 where
+  pub low : last ≤ v.entries
+  pub own : (u : ℕ) (x : Sealed) → sealed_at u sealed ≡ Some x → sealed_at u v.sealed ≡ Some x

@@ -70,12 +70,12 @@ pub record Known (v : View) (s : State) : Type 0 where
   pub later : latest s.audit ≤ v.moment
   pub count : v.entries ≡ length s.audit
 
--- the call may change what is sealed of this upload
-abbrev pub moves_seal : ℕ → Call → Bool
-moves_seal u (Asked (Seal upload d size)) = nat_eq u upload
-moves_seal u (Asked (SealManifest upload put)) = nat_eq u upload
-moves_seal u (StagePlaced upload d) = nat_eq u upload
-moves_seal u call = false
+-- the call may change what is sealed of this upload: an Ok seals it, and a placing ends that
+abbrev pub moves_seal : ℕ → Call → Outcome → Bool
+moves_seal u (Asked (Seal upload d size)) (Ok gave) = nat_eq u upload
+moves_seal u (Asked (SealManifest upload put)) (Ok gave) = nat_eq u upload
+moves_seal u (StagePlaced upload d) outcome = nat_eq u upload
+moves_seal u call outcome = false
 
 -- Its numbers and causes, which hold of every desk.
 pub record Causes (old new : View) (now : ℕ) (call : Call) (outcome : Outcome) : Type 0 where
@@ -88,7 +88,7 @@ pub record Causes (old new : View) (now : ℕ) (call : Call) (outcome : Outcome)
   pub entries : old.entries ≤ new.entries
   pub room : new.entries ≤ 2 ^ 62
   pub rises : old.moment ≤ new.moment
-  pub sealed : (u : ℕ) (x : Sealed) → moves_seal u call ≡ false → sealed_at u old.sealed ≡ Some x → sealed_at u new.sealed ≡ Some x
+  pub sealed : (u : ℕ) (x : Sealed) → moves_seal u call outcome ≡ false → sealed_at u old.sealed ≡ Some x → sealed_at u new.sealed ≡ Some x
   pub moment : may_be_unmade new.spent outcome ≡ false → min now LAST_MOMENT ≤ new.moment
   pub sole : new.sole ≡ old.sole
   pub told_bytes : new.told_bytes ≡ old.told_bytes

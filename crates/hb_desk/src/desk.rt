@@ -1,4 +1,4 @@
-ghost use Rattle.std.specs.Prelude.{◌≡◌, ◌≤◌, ◌^◌, ℕ, true, length, is_some, Some, IfOk, IfSome, IsSomeAnd};
+ghost use Rattle.std.specs.Prelude.{◌≡◌, ◌≤◌, ◌^◌, ℕ, true, false, length, Some, IfOk, IfSome, IsSomeAnd};
 ghost use Rattle.std.specs.Option.{option_copied};
 ghost use Rattle.hb_text.specs.Digests.{digest_of};
 ghost use Rattle.hb_desk.specs.Calls.{Asked, StageTaken, StagePlaced, StageDropped, BlobOpened, ManifestOpened, Tells, StageAt, Number, Dropped, Content, plain};
@@ -64,17 +64,16 @@ pub trait Desk {
         ensures event { EventOf (view self.old) (view self.new) (StagePlaced upload digest.now) (plain Number result) }
         ensures causes { Causes (view self.old) (view self.new) now (StagePlaced upload digest.now) (plain Number result) };
 
-    /// Ends the stage of an upload. With a stage in hand that one is given up; without one, it is refused where
-    /// the stage is out or the upload is there.
-    fn drop_stage(
-        &mut self,
-        upload: u64,
-        stage: Option<Self::Stage>,
-        now: u64,
-    ) -> Result<(), Refusal>
-        requires stage { IfSome stage (λ s. Self.Stage.upload s ≡ upload) }
-        ensures event { EventOf (view self.old) (view self.new) (StageDropped upload (is_some stage)) (plain (λ _. Dropped) result) }
-        ensures causes { Causes (view self.old) (view self.new) now (StageDropped upload (is_some stage)) (plain (λ _. Dropped) result) };
+    /// Ends the stage of an upload, which is given up, whatever is answered.
+    fn drop_stage(&mut self, upload: u64, stage: Self::Stage, now: u64) -> Result<(), Refusal>
+        requires stage { Self.Stage.upload stage ≡ upload }
+        ensures event { EventOf (view self.old) (view self.new) (StageDropped upload true) (plain (λ _. Dropped) result) }
+        ensures causes { Causes (view self.old) (view self.new) now (StageDropped upload true) (plain (λ _. Dropped) result) };
+
+    /// Ends the stage of an upload that nobody holds. It is refused where the stage is out, or the upload is there.
+    fn drop_left_stage(&mut self, upload: u64, now: u64) -> Result<(), Refusal>
+        ensures event { EventOf (view self.old) (view self.new) (StageDropped upload false) (plain (λ _. Dropped) result) }
+        ensures causes { Causes (view self.old) (view self.new) now (StageDropped upload false) (plain (λ _. Dropped) result) };
 
     /// Opens a blob that the repository's project has.
     fn open_blob(

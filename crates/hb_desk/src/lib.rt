@@ -1,6 +1,7 @@
 //! The desk: the one contract between the world and the operations above it.
 #![tactic(auto)]
 
+mod alone;
 mod asks;
 mod desk;
 mod gave;
@@ -8,6 +9,7 @@ mod laws;
 mod refusals;
 mod told;
 
+pub use alone::{Alone, Others};
 pub use asks::Ask;
 pub use desk::Desk;
 pub use gave::{Opened, Staged};

@@ -22,66 +22,36 @@ pub enum Refusal {
     /// The repository has no such upload.
     UploadUnknown,
     /// The upload's stage is out.
-    Busy {
-        upload: u64,
-    },
+    Busy { upload: u64 },
     /// The start isn't the offset that was acknowledged, which is this.
-    OutOfOrder {
-        offset: u64,
-    },
+    OutOfOrder { offset: u64 },
     /// The project hasn't this reference of the manifest, the first that is missing.
-    MissingRef {
-        digest: Digest,
-    },
+    MissingRef { digest: Digest },
     /// The repository has no such artifact for this child of the index, the first that is missing.
-    MissingChild {
-        digest: Digest,
-    },
+    MissingChild { digest: Digest },
     /// A tag that would go or move is immutable by the rule at this place, counted from 1.
-    Immutable {
-        rule: u32,
-    },
+    Immutable { rule: u32 },
     /// This artifact lists it as a child.
-    HasParent {
-        digest: Digest,
-    },
+    HasParent { digest: Digest },
     /// The project would use more than its limit, all in bytes.
-    OverLimit {
-        used: u128,
-        adds: u64,
-        limit: i64,
-    },
+    OverLimit { used: u128, adds: u64, limit: i64 },
     /// A removal of the digest may still take effect until this moment.
-    Collecting {
-        until: u64,
-    },
+    Collecting { until: u64 },
     /// The digest was taken or collected since it was placed: the number of entries at its placing, and the
     /// number of the entry that took or collected it.
-    Raced {
-        placed: u64,
-        gone: u64,
-    },
+    Raced { placed: u64, gone: u64 },
     /// The reference names no artifact.
     ManifestUnknown,
     /// The row has another version than the one that was sent: this, or 0 where there is no row.
-    Stale {
-        version: u64,
-    },
+    Stale { version: u64 },
     /// This artifact of the project needs the digest, the least one.
-    Referenced {
-        name: Name,
-        digest: Digest,
-    },
+    Referenced { name: Name, digest: Digest },
     /// The window since it was last touched or pushed, at this moment, isn't over.
-    Young {
-        touched: u64,
-    },
+    Young { touched: u64 },
     /// There is no such job, candidate or snapshot.
     JobUnknown,
     /// Somebody has claimed the job.
-    JobHeld {
-        job: u64,
-    },
+    JobHeld { job: u64 },
     /// The removal wasn't sent, and may still be.
     NotSent,
     /// The upload has no placement of that digest.
@@ -93,9 +63,7 @@ pub enum Refusal {
     /// The job is finished.
     JobDone,
     /// The removal's bar is reached, which is this moment.
-    Late {
-        until: u64,
-    },
+    Late { until: u64 },
     /// The removal was sent.
     Sent,
 }

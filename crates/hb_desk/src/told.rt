@@ -1,4 +1,3 @@
-
 use hb_records::{JobRow, Page, Sums, TagList, TagVerdict, Verdict};
 use hb_text::{Digest, Text};
 
