@@ -1,0 +1,9 @@
+use Rattle.std.proofs.Common.{refl}
+use Rattle.hb_desk.specs.Calls.{BlobOpened}
+use Rattle.hb_desk.proofs.Interleave.{alone-quiet}
+use Rattle.hb_desk.proofs.alone.AloneDesk.open_blob.Goals as goal
+
+pub returns-clause-event : goal.returns-clause-event
+returns-clause-event g c =
+    rw (← c.self.view_is) (alone-quiet c.self.inside.own (g.D.Desk.view c.self.inside.desk) (g.D.Desk.view c.between.new.desk) (g.D.Desk.view c.open_blob.new.self) c.self.inside.last c.self.inside.sealed c.self.inside.sealed
+    (BlobOpened c.args.name.now c.args.digest.now) _ refl c.between.ensures c.open_blob.ensures.event)

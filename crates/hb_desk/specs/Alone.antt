@@ -1,0 +1,51 @@
+-- What contracts see of a caller that isn't alone.
+use Rattle.std.specs.Prelude.{◌≡◌, ◌≤◌, ℕ, Bool, false, List, Option, Some, None, ◌∷◌, nat_eq}
+use Rattle.std.specs.List.{list_any}
+use Rattle.hb_records.specs.declared.notes.Sealed.{Sealed}
+use Rattle.hb_desk.specs.Clause.{View}
+use Rattle.hb_desk.specs.Notes.{sealed_at}
+use Rattle.hb_desk.specs.declared.asks.Ask.{Ask}
+use Rattle.hb_desk.specs.declared.asks.Ask.TheVariants.{Seal, SealManifest}
+
+-- a desk, others that act on it, and what the caller did itself: the numbers of its entries, the last of them, and
+-- what it sealed and hasn't placed
+pub record AloneParts (D X : Type 0) : Type 0 where
+  pub desk : D
+  pub others : X
+  pub own : List ℕ
+  pub last : ℕ
+  pub sealed : List Sealed
+
+abbrev pub is_own : List ℕ → ℕ → Bool
+is_own own n = list_any (nat_eq n) own
+
+-- the desk's view, with what is the caller's own, and with others
+abbrev pub alone_view : View → List ℕ → ℕ → List Sealed → View
+alone_view v own last sealed = record {
+  state = v.state;
+  entries = v.entries;
+  moment = v.moment;
+  mine = is_own own;
+  last = last;
+  sealed = sealed;
+  keeper_faults = v.keeper_faults;
+  store_faults = v.store_faults;
+  told_bytes = v.told_bytes;
+  sole = false;
+  spent = v.spent;
+}
+
+-- what an ask seals where it is Ok
+abbrev pub seal_of : Ask → Option Sealed
+seal_of (Seal upload d size) = Some (record { upload = upload; digest = d; size = size })
+seal_of (SealManifest upload put) = Some (record { upload = upload; digest = put.digest; size = put.size })
+seal_of ask = None
+
+abbrev pub with_seal : Option Sealed → List Sealed → List Sealed
+with_seal None sealed = sealed
+with_seal (Some x) sealed = x ∷ sealed
+
+-- what is always known of such a caller: its last number is one of an entry, and what it sealed the desk has sealed
+pub record AloneKnows (v : View) (last : ℕ) (sealed : List Sealed) : Type 0 where
+  pub low : last ≤ v.entries
+  pub own : (u : ℕ) (x : Sealed) → sealed_at u sealed ≡ Some x → sealed_at u v.sealed ≡ Some x

@@ -1,0 +1,11 @@
+pub mod Alone
+pub mod Calls
+pub mod Clause
+pub mod Events
+pub mod Notes
+pub mod Noting
+pub mod Prefix
+pub mod ProjectVersions
+pub mod Refusing
+pub mod Reply
+pub mod State

@@ -1,0 +1,28 @@
+//! What holds of replies and of events, whatever desk answers. Each function does nothing: its contract is the law.
+ghost use Rattle.std.specs.Prelude.{◌≡◌, ◌≤◌, ℕ, suc, List, length, Some};
+ghost use Rattle.hb_records.specs.declared.entries.EntryKind.{EntryKind};
+ghost use Rattle.hb_model.specs.History.{History, Legal, latest};
+ghost use Rattle.hb_desk.specs.Calls.{Call};
+ghost use Rattle.hb_desk.specs.Clause.{AllFit};
+ghost use Rattle.hb_desk.specs.Events.{Event, after};
+ghost use Rattle.hb_desk.specs.Prefix.{GoesOn};
+ghost use Rattle.hb_desk.specs.Reply.{reply};
+ghost use Rattle.hb_desk.specs.State.{State};
+
+/// The entry that a reply makes is legal as the next one, at a moment that doesn't fall.
+pub fn what_is_replied_is_legal()
+    ensures { (s : State) (call : Call) (t : ℕ) (kind : EntryKind) → latest s.audit ≤ t
+        → (reply call s t).entry ≡ Some kind
+        → Legal s.audit (record { number = suc (length s.audit); moment = t; kind = kind }) }
+{}
+
+/// Events that fit their replies make a history of a history.
+pub fn events_keep_a_history()
+    ensures { (events : List Event) (s : State) → History s.audit → AllFit events s
+        → History (after events s).audit }
+{}
+
+/// What was seen stays, whatever happens.
+pub fn what_was_seen_stays()
+    ensures { (events : List Event) (s : State) → GoesOn s.audit (after events s).audit }
+{}
