@@ -1,0 +1,5 @@
+mod BuiltAudits
+pub mod BuiltEntries
+pub mod ProjectVersions
+pub mod RowAnswers
+mod SeenRows

@@ -1,0 +1,3 @@
+pub mod BuiltAudits
+pub mod RowRefusals
+pub mod RowReplies

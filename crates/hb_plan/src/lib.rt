@@ -1,0 +1,4 @@
+//! What a world answers to an ask, decided over the rows of a keeper, and the batch of its entry.
+#![tactic(auto)]
+
+pub mod laws;
