@@ -39,13 +39,15 @@ abbrev pub seal_over : Tables → ℕ → Digest → ℕ → Option Upload → R
 seal_over r upload d size None = refused UploadUnknown
 seal_over r upload d size (Some row) = refuse (over_limit_row r (project_of row.name) d size) (commits r.audit told.Done (entry.UploadEnded 0 upload))
 
-abbrev pub seal_manifest_over : Tables → ℕ → PutAsk → Reply
-seal_manifest_over r upload p =
-    refuse (no_upload_row_of r p.name upload)
-    (refuse (missing_ref_row r (project_of p.name) p.refs)
+-- the reply, where a manifest of this size has its parts and fits the limit
+abbrev pub parts_over : Tables → PutAsk → ℕ → Reply → Reply
+parts_over r p size reply =
+    refuse (missing_ref_row r (project_of p.name) p.refs)
     (refuse (missing_child_row r p.name p.children)
-    (refuse (over_limit_row r (project_of p.name) p.digest p.size)
-    (commits r.audit told.Done (entry.UploadEnded 0 upload)))))
+    (refuse (over_limit_row r (project_of p.name) p.digest size) reply))
+
+abbrev pub seal_manifest_over : Tables → ℕ → PutAsk → Reply
+seal_manifest_over r upload p = refuse (no_upload_row_of r p.name upload) (parts_over r p p.size (commits r.audit told.Done (entry.UploadEnded 0 upload)))
 
 abbrev pub settle_over : Tables → List ℕ → Digest → Option Placement → Reply
 settle_over r name d None = refused NotPlaced
@@ -56,10 +58,8 @@ settle_over r name d (Some x) =
 abbrev pub put_over : Tables → PutAsk → Option Placement → Reply
 put_over r p None = refused NotPlaced
 put_over r p (Some x) =
-    refuse (missing_ref_row r (project_of p.name) p.refs)
-    (refuse (missing_child_row r p.name p.children)
-    (refuse (over_limit_row r (project_of p.name) p.digest (stored_size (blob_at r p.digest) x))
-    (commits r.audit told.Done (entry.ArtifactPut p.name p.digest (stored_size (blob_at r p.digest) x) p.media p.refs p.children p.tag))))
+    parts_over r p (stored_size (blob_at r p.digest) x)
+    (commits r.audit told.Done (entry.ArtifactPut p.name p.digest (stored_size (blob_at r p.digest) x) p.media p.refs p.children p.tag))
 
 abbrev pub pull_over : Tables → List ℕ → Digest → Reply
 pull_over r name d = if is_some (artifact_at r name d) then commits r.audit told.Done (entry.Pulled name d) else gives (Tells told.Nothing)

@@ -1,4 +1,9 @@
 //! What a world answers to an ask, decided over the rows of a keeper, and the batch of its entry.
 #![tactic(auto)]
 
+mod deciding;
+mod finding;
 pub mod laws;
+mod planned;
+
+pub use planned::Planned;
