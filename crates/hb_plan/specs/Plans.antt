@@ -35,9 +35,17 @@ PlanFits reply r n t (Err refusal) = IsPlanFault refusal ⊎ (reply.outcome ≡ 
 abbrev pub Plans : Option Tables → List Placement → Ask → ℕ → ℕ → Result Planned Refusal → Type 0
 Plans rows placements ask n t result = IfSome rows (λ r. n ≡ suc (length r.audit) → (notes : Notes) → notes.placements ≡ placements → PlanFits (row_reply (Asked ask) r notes) r n t result)
 
--- an entry of this kind, of whatever rows have what was found
+-- of rows and whatever notes
+abbrev pub PlansAnyhow : Option Tables → Ask → ℕ → ℕ → Result Planned Refusal → Type 0
+PlansAnyhow rows ask n t result = IfSome rows (λ r. n ≡ suc (length r.audit) → (notes : Notes) → PlanFits (row_reply (Asked ask) r notes) r n t result)
+
+-- of all tables that have what was found
+abbrev pub Answers : (Tables → Type 0) → (Tables → Reply) → ℕ → ℕ → Result Planned Refusal → Type 0
+Answers found reply n t result = (r : Tables) → n ≡ suc (length r.audit) → found r → PlanFits (reply r) r n t result
+
+-- the same of an entry of this kind
 abbrev pub Commits : (Tables → Type 0) → Told → EntryKind → ℕ → ℕ → Result Planned Refusal → Type 0
-Commits found x kind n t result = (r : Tables) → n ≡ suc (length r.audit) → found r → PlanFits (commits r.audit x kind) r n t result
+Commits found x kind n t result = Answers found (λ r. commits r.audit x kind) n t result
 
 -- A batch has its entry's number and moment, also where no rows are told.
 abbrev pub IsStamped : ℕ → ℕ → Result Planned Refusal → Type 0

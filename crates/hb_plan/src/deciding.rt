@@ -8,12 +8,12 @@ ghost use Rattle.hb_model.specs.LegalBlobs.{allows};
 ghost use Rattle.hb_model.specs.Words.{same_text, some_and};
 ghost use Rattle.hb_desk.specs.Reply.{Reply, refuse, commits};
 ghost use Rattle.hb_desk.specs.declared.told.Told.TheVariants as told;
-ghost use Rattle.hb_plan.specs.Findings.{holding_of, first_missing_ref, first_missing_child, Decides};
+ghost use Rattle.hb_plan.specs.Findings.{holding_of, parts_of, Decides};
 ghost use Rattle.hb_plan.specs.Plans.{is_keeper, IsOwn};
 ghost use Rattle.hb_plan.specs.RowRefusals.{no_project_row, over_limit_of, stored_size as size_that_counts};
 ghost use Rattle.hb_plan.specs.RowReplies.{parts_over, seal_over, seal_manifest_over, settle_over, put_over};
 
-use crate::planned::Holding;
+use crate::planned::{Holding, Parts};
 use hb_desk::Refusal;
 use hb_records::{Blob, Placement, Project, PutAsk, Upload};
 use hb_text::{Digest, Name};
@@ -88,24 +88,20 @@ fn is_of(row: &Option<Upload>, name: &Name) -> bool
 // Whether a manifest has its parts, and fits the limit.
 fn is_whole(
     put: &PutAsk,
-    missing_ref: Option<Digest>,
-    missing_child: Option<Digest>,
-    held: &Holding,
+    parts: &Parts,
     size: u64,
 ) -> Result<(), Refusal>
-    ensures decides { (r : Tables) (reply : Reply) → first_missing_ref r (project_of put.now.name) put.now.refs ≡ missing_ref
-        → first_missing_child r put.now.name put.now.children ≡ missing_child
-        → holding_of r (project_of put.now.name) put.now.digest ≡ held.now
+    ensures decides { (r : Tables) (reply : Reply) → parts_of r (project_of put.now.name) put.now ≡ parts.now
         → Decides (parts_over r put.now size reply) (λ _. reply) result }
     ensures own { IsOwn result }
 {
-    if let Some(digest) = missing_ref {
+    if let Some(digest) = parts.missing_ref {
         return Err(Refusal::MissingRef { digest });
     }
-    if let Some(digest) = missing_child {
+    if let Some(digest) = parts.missing_child {
         return Err(Refusal::MissingChild { digest });
     }
-    match over_limit(held, size) {
+    match over_limit(&parts.held, size) {
         Some(refusal) => Err(refusal),
         None => Ok(()),
     }
@@ -116,21 +112,16 @@ pub(crate) fn seals_manifest(
     upload: u64,
     row: &Option<Upload>,
     put: &PutAsk,
-    missing_ref: Option<Digest>,
-    missing_child: Option<Digest>,
-    held: &Holding,
+    parts: &Parts,
 ) -> Result<(), Refusal>
-    ensures decides { (r : Tables) → upload_at r upload ≡ row.now
-        → first_missing_ref r (project_of put.now.name) put.now.refs ≡ missing_ref
-        → first_missing_child r put.now.name put.now.children ≡ missing_child
-        → holding_of r (project_of put.now.name) put.now.digest ≡ held.now
+    ensures decides { (r : Tables) → upload_at r upload ≡ row.now → parts_of r (project_of put.now.name) put.now ≡ parts.now
         → Decides (seal_manifest_over r upload put.now) (λ _. commits r.audit told.Done (entry.UploadEnded 0 upload)) result }
     ensures own { IsOwn result }
 {
     if !is_of(row, &put.name) {
         return Err(Refusal::UploadUnknown);
     }
-    is_whole(put, missing_ref, missing_child, held, put.size)
+    is_whole(put, parts, put.size)
 }
 
 // The size with which a project may get what was placed.
@@ -161,27 +152,22 @@ pub(crate) fn settles(
 // The size with which a manifest may be put that was placed.
 pub(crate) fn puts(
     put: &PutAsk,
-    missing_ref: Option<Digest>,
-    missing_child: Option<Digest>,
-    held: &Holding,
+    parts: &Parts,
     blob: &Option<Blob>,
     placement: Option<&Placement>,
 ) -> Result<u64, Refusal>
-    ensures decides { (r : Tables) → first_missing_ref r (project_of put.now.name) put.now.refs ≡ missing_ref
-        → first_missing_child r put.now.name put.now.children ≡ missing_child
-        → holding_of r (project_of put.now.name) put.now.digest ≡ held.now
-        → blob_at r put.now.digest ≡ blob.now
+    ensures decides { (r : Tables) → parts_of r (project_of put.now.name) put.now ≡ parts.now → blob_at r put.now.digest ≡ blob.now
         → Decides (refuse (no_project_row r (project_of put.now.name)) (put_over r put.now (option_copied placement.entry))) (λ size. commits r.audit told.Done (entry.ArtifactPut put.now.name put.now.digest size put.now.media put.now.refs put.now.children put.now.tag)) result }
     ensures own { IsOwn result }
 {
-    if held.project.is_none() {
+    if parts.held.project.is_none() {
         return Err(Refusal::NoProject);
     }
     let Some(placement) = placement else {
         return Err(Refusal::NotPlaced);
     };
     let size = stored_size(blob, placement);
-    match is_whole(put, missing_ref, missing_child, held, size) {
+    match is_whole(put, parts, size) {
         Ok(()) => Ok(size),
         Err(refusal) => Err(refusal),
     }

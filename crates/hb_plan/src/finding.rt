@@ -8,14 +8,14 @@ ghost use Rattle.hb_keeper.specs.Keeps.{KeepCause, Reads};
 ghost use Rattle.hb_desk.specs.Notes.{is_placement};
 ghost use Rattle.hb_desk.specs.declared.refusals.Refusal.TheVariants.{Keeper as KeeperFailed};
 ghost use Rattle.std.specs.Option.{option_copied};
-ghost use Rattle.hb_plan.specs.Findings.{holding_of, first_missing_ref, first_missing_child};
+ghost use Rattle.hb_plan.specs.Findings.{holding_of, first_missing_ref, first_missing_child, parts_of};
 ghost use Rattle.hb_plan.specs.Plans.{IsPlanFault};
 
-use crate::planned::Holding;
+use crate::planned::{Holding, Parts};
 use hb_desk::Refusal;
 use hb_keeper::{KeepFault, Keeper};
 use hb_model::changes::{Stamp, touch};
-use hb_records::{Assoc, Blob, ChangeList, Memory, Placement};
+use hb_records::{Assoc, Blob, ChangeList, Memory, Placement, PutAsk};
 use hb_text::{Digest, Name, ProjectName};
 use std::alloc::Global;
 
@@ -88,7 +88,7 @@ fn has_artifact<K: Keeper>(
 }
 
 // The first reference that the project hasn't.
-pub(crate) fn missing_ref<K: Keeper>(
+fn missing_ref<K: Keeper>(
     keeper: &mut K,
     project: &ProjectName,
     refs: &[Digest],
@@ -106,7 +106,7 @@ pub(crate) fn missing_ref<K: Keeper>(
 }
 
 // The first child that the repository hasn't.
-pub(crate) fn missing_child<K: Keeper>(
+fn missing_child<K: Keeper>(
     keeper: &mut K,
     name: &Name,
     children: &[Digest],
@@ -121,6 +121,23 @@ pub(crate) fn missing_child<K: Keeper>(
         }
     }
     Ok(None)
+}
+
+// What a manifest is decided by.
+pub(crate) fn parts<K: Keeper>(
+    keeper: &mut K,
+    project: &ProjectName,
+    put: &PutAsk,
+) -> Result<Parts, KeepFault>
+    ensures told { Reads (K.rows keeper.old) result (λ t. parts_of t project.now put.now) }
+    ensures rows { K.rows keeper.new ≡ K.rows keeper.old }
+    ensures cause { KeepCause (K.faults keeper.old) (K.faults keeper.new) result }
+{
+    Ok(Parts {
+        missing_ref: missing_ref(keeper, project, put.refs.as_slice())?,
+        missing_child: missing_child(keeper, &put.name, put.children.as_slice())?,
+        held: holding(keeper, project, &put.digest)?,
+    })
 }
 
 // Adds the touch of a digest by its rows.

@@ -11,8 +11,8 @@ use Rattle.hb_plan.specs.RowReplies.{parts_over}
 use Rattle.hb_plan.proofs.deciding.seals_manifest.Goals as goal
 
 pub returns-clause-decides : goal.returns-clause-decides
-returns-clause-decides c r upload ref child held =
+returns-clause-decides c r upload parts =
     let next = commits r.audit told.Done (entry.UploadEnded 0 c.args.upload) in
     let known : no_upload_row_of r c.args.put.now.name c.args.upload ≡ None =
     ap (λ x. unless (some_and (λ row. same_text c.args.put.now.name row.name) x) UploadUnknown) upload ∙ ap (λ b. unless b UploadUnknown) (sym c.if-not-is_of.ensures) in
-    subst (λ cause. Decides (refuse cause (parts_over r c.args.put.now c.args.put.now.size next)) (λ x. next) c.is_whole.result) (sym known) (c.is_whole.ensures.decides r next ref child held)
+    subst (λ cause. Decides (refuse cause (parts_over r c.args.put.now c.args.put.now.size next)) (λ x. next) c.is_whole.result) (sym known) (c.is_whole.ensures.decides r next parts)
