@@ -20,9 +20,7 @@ use hb_keeper::{KeepFault, Keeper};
 use hb_model::changes::{
     Stamp, artifact_pushed, associated, pulled, tag_put, upload_begun, upload_ended,
 };
-use hb_records::{
-    Artifact, Batch, ChangeList, Entry, EntryKind, MAX_ENTRIES, Memory, PutAsk,
-};
+use hb_records::{Artifact, Batch, ChangeList, Entry, EntryKind, MAX_ENTRIES, Memory, PutAsk};
 use hb_text::{Digest, Duplicate, Name, ProjectName, Tag};
 use std::alloc::Global;
 
@@ -93,7 +91,9 @@ fn association(
     ensures { (r : Tables) → holding_of r project.now digest.now ≡ held.now
         → IfOk result (λ made. made ≡ associate_changes stamp.number stamp.moment project.now digest.now size r) }
 {
-    if let Some(row) = &held.project && !has_room(row, size) {
+    if let Some(row) = &held.project
+        && !has_room(row, size)
+    {
         return Err(Memory);
     }
     let row = held.project.as_ref();
@@ -139,7 +139,15 @@ pub(crate) fn put_changes_of<K: Keeper>(
     ensures cause { KeepCause (K.faults keeper.old) (K.faults keeper.new) result }
 {
     let mut made = association(alloc, stamp, project, &put.digest, size, held)?;
-    touch_others(alloc, keeper, &mut made, stamp, project, &put.digest, put.refs.as_slice())?;
+    touch_others(
+        alloc,
+        keeper,
+        &mut made,
+        stamp,
+        project,
+        &put.digest,
+        put.refs.as_slice(),
+    )?;
     let row = keeper.artifact(&put.name, &put.digest)?;
     push_artifact(alloc, &mut made, stamp, put, size, &row)?;
     Ok(made)

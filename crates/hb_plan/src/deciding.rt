@@ -64,7 +64,13 @@ fn stored_size(blob: &Option<Blob>, placement: &Placement) -> u64
 }
 
 // Whether an upload may be sealed.
-pub(crate) fn seals(upload: u64, row: &Upload, held: &Holding, digest: &Digest, size: u64) -> Result<(), Refusal>
+pub(crate) fn seals(
+    upload: u64,
+    row: &Upload,
+    held: &Holding,
+    digest: &Digest,
+    size: u64,
+) -> Result<(), Refusal>
     ensures decides { (r : Tables) → holding_of r (project_of row.now.name) digest.now ≡ held.now
         → Decides (seal_over r upload digest.now size (Some row.now)) (λ _. commits r.audit told.Done (entry.UploadEnded 0 upload)) result }
     ensures own { IsOwn result }
@@ -86,11 +92,7 @@ fn is_of(row: &Option<Upload>, name: &Name) -> bool
 }
 
 // Whether a manifest has its parts, and fits the limit.
-fn is_whole(
-    put: &PutAsk,
-    parts: &Parts,
-    size: u64,
-) -> Result<(), Refusal>
+fn is_whole(put: &PutAsk, parts: &Parts, size: u64) -> Result<(), Refusal>
     ensures decides { (r : Tables) (reply : Reply) → parts_of r (project_of put.now.name) put.now ≡ parts.now
         → Decides (parts_over r put.now size reply) (λ _. reply) result }
     ensures own { IsOwn result }

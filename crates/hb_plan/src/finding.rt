@@ -75,11 +75,7 @@ fn has_pair<K: Keeper>(
     Ok(keeper.pair(project, digest)?.is_some())
 }
 
-fn has_artifact<K: Keeper>(
-    keeper: &mut K,
-    name: &Name,
-    digest: &Digest,
-) -> Result<bool, KeepFault>
+fn has_artifact<K: Keeper>(keeper: &mut K, name: &Name, digest: &Digest) -> Result<bool, KeepFault>
     ensures told { Reads (K.rows keeper.old) result (λ t. is_some (artifact_at t name.now digest.now)) }
     ensures rows { K.rows keeper.new ≡ K.rows keeper.old }
     ensures cause { KeepCause (K.faults keeper.old) (K.faults keeper.new) result }

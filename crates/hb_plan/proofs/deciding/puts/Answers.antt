@@ -1,4 +1,4 @@
-use Rattle.std.proofs.Common.{◌≡◌, true, is_some, sym, ap, ◌∙◌, Some}
+use Rattle.std.proofs.Common.{is_some, sym, ap, ◌∙◌}
 use Rattle.std.specs.Option.{option_copied}
 use Rattle.hb_plan.specs.RowRefusals.{stored_size}
 use Rattle.hb_plan.proofs.Puts.{put_commits, put-left}

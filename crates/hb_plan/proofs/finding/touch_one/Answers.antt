@@ -1,4 +1,4 @@
-use Rattle.std.proofs.Common.{◌≡◌, ◌++◌, OnOk, sym}
+use Rattle.std.proofs.Common.{◌≡◌, ◌++◌, sym}
 use Rattle.hb_rows.specs.Tables.{pair_at, blob_at}
 use Rattle.hb_model.specs.ContentChanges.{touch_changes}
 use Rattle.hb_plan.proofs.Findings.{found-both}
