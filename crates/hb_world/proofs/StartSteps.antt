@@ -62,7 +62,7 @@ later-whole t c now later after h = record {
 opened-whole : (t : Tables) (c : Contents) (moment : ℕ) (j : List AuditEntry) → t.audit ≡ j → latest t.audit ≤ moment → IsWhole t no_notes c (latest t.audit) → IsWhole (opened_by j moment t) no_notes c moment
 opened-whole t c moment [] none after h =
     quiet-whole t no_notes no_notes c (latest t.audit) (first_entry moment) h (subst (λ j. Legal j (first_entry moment)) (sym none) (first-legal moment)) refl
-      (record { sealed = refl; placements = refl; spells = refl; sightings = refl })
+    (record { sealed = refl; placements = refl; spells = refl; sightings = refl })
 opened-whole t c moment (e ∷ j) some after h = later-whole t c (latest t.audit) moment after h
 
 pub started-world : (rows : Option Tables) (contents : Option Contents) (now : ℕ) (after : Option Tables) (moment : ℕ) → CanStart rows contents → Started rows now after moment → IsWorld after contents moment
@@ -72,7 +72,7 @@ started-world (Some t) (Some c) now after moment (inl misfit) started = absurd (
 started-world (Some t) (Some c) now after moment (inr rest) started =
     let at = start_moment t now in
     subst (λ rows. IsWorld rows (Some c) moment) (sym started.1)
-      (subst (λ m. IsWhole (opened_by t.audit at t) no_notes c m) (sym started.2) (opened-whole t c at t.audit refl (omega arith) rest))
+    (subst (λ m. IsWhole (opened_by t.audit at t) no_notes c m) (sym started.2) (opened-whole t c at t.audit refl (omega arith) rest))
 
 -- ---- refusals
 pub told-misfit : (before : Option Tables) (rows : Tables) (m n : Misfit) → Tells rows (Some m) → IfSome before (λ t. rows ≡ t) → m ≡ n → IfSome before (λ t. Tells t (Some n))
