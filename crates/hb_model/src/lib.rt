@@ -25,9 +25,11 @@ pub mod laws;
 mod misfits;
 pub mod names;
 pub mod quiet;
+mod usage;
 
 pub use fitting::fit;
 pub use misfits::Misfit;
+pub use usage::usage_of;
 
 #[cfg(test)]
 mod tests;
