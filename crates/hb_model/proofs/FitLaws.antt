@@ -18,7 +18,7 @@ older-order (e ∷ newer) j h = older-order newer j h.2
 oldest-order : (j : List AuditEntry) (n : ℕ) → IsInOrder j → IsInOrder (reverse (take n (reverse j)))
 oldest-order j n h =
     older-order (reverse (drop n (reverse j))) (reverse (take n (reverse j)))
-      (subst IsInOrder (sym (sym (reverse-append (take n (reverse j)) (drop n (reverse j))) ∙ ap reverse (take-append-drop n (reverse j)) ∙ reverse-reverse j)) h)
+    (subst IsInOrder (sym (sym (reverse-append (take n (reverse j)) (drop n (reverse j))) ∙ ap reverse (take-append-drop n (reverse j)) ∙ reverse-reverse j)) h)
 
 history-order : (j : List AuditEntry) → History j → IsInOrder j
 history-order [] h = tt
