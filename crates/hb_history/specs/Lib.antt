@@ -1,3 +1,2 @@
 pub mod PresentRows
-pub mod UsedRows
 pub mod Versions
