@@ -7,7 +7,8 @@ use Rattle.hb_records.specs.declared.keys.Table.{Table}
 use Rattle.hb_records.specs.declared.keys.Table.TheVariants as table
 use Rattle.hb_rows.specs.Tables.{Tables}
 use Rattle.hb_model.specs.Effects.{rows_of}
-use Rattle.hb_model.specs.Fit.{IsInOrder, Fits, DifferAt, FirstAt, FitOrNot, TellsFrom, unbuilt_at}
+use Rattle.hb_model.specs.declared.misfits.Misfit.{Misfit}
+use Rattle.hb_model.specs.Fit.{Tells, IsInOrder, Fits, DifferAt, FirstAt, FitOrNot, TellsFrom, unbuilt_at}
 use Rattle.hb_model.specs.History.{History, Stands}
 
 -- entries in order, without the newest of them
@@ -53,3 +54,7 @@ fit-or-not t = record {
   told = λ fits. subst (λ unbuilt. TellsFrom unbuilt t None) (sym fits.built) fits;
   apart = λ m fits told. no-misfit t (rows_of t.audit) m.table m.place fits.made fits.ordered (subst (λ unbuilt. TellsFrom unbuilt t (Some m)) fits.built told);
 }
+
+-- what fit tells is one of two
+pub fits-apart : (t : Tables) (m : Misfit) → Tells t None → ¬ (Tells t (Some m))
+fits-apart t m none = (fit-or-not t).apart m ((fit-or-not t).fits none)

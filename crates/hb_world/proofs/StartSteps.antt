@@ -22,7 +22,7 @@ use Rattle.hb_model.specs.Whole.{IsWhole, no_notes}
 use Rattle.hb_model.specs.declared.misfits.Misfit.{Misfit}
 use Rattle.hb_model.proofs.WholeSteps.{quiet-whole}
 use Rattle.hb_world.specs.Starting.{CanStart, IsWorld, Started, first_entry, opened_by, start_moment}
-use Rattle.hb_world.proofs.Fitting.{fits-apart}
+use Rattle.hb_model.proofs.FitLaws.{fits-apart}
 
 -- ---- the first entry
 -- its batch makes what it does

@@ -9,7 +9,7 @@ ghost use Rattle.hb_world.specs.declared.world.StartFault.TheVariants.{Failed, M
 use crate::starting::ready;
 use hb_keeper::{KeepFault, Keeper};
 use hb_model::Misfit;
-use hb_records::{Memory, Table};
+use hb_records::Memory;
 use hb_store::Store;
 use std::alloc::Global;
 use std::error::Error;
@@ -27,28 +27,10 @@ pub enum StartFault {
     Memory,
 }
 
-// The name of a table.
-fn word(table: Table) -> &'static str {
-    match table {
-        Table::Project => "project",
-        Table::Blob => "blob",
-        Table::Pair => "pair",
-        Table::Artifact => "artifact",
-        Table::Tag => "tag",
-        Table::Upload => "upload",
-        Table::Job => "job",
-        Table::Candidate => "candidate",
-        Table::Snap => "snap",
-        Table::Entry => "entry",
-    }
-}
-
 impl fmt::Display for StartFault {
     fn fmt<W: fmt::Write>(&self, f: &mut fmt::Formatter<W>) -> fmt::Result {
         match self {
-            StartFault::Misfit(Misfit { table, place }) => {
-                write!(f, "rows do not fit {} {}", word(*table), place)
-            }
+            StartFault::Misfit(misfit) => write!(f, "rows do not fit {}", misfit),
             StartFault::Failed => write!(f, "rows failed"),
             StartFault::Memory => write!(f, "memory"),
         }
