@@ -1,4 +1,4 @@
-use Rattle.std.proofs.Common.{◌≡◌, ◌<◌, ◌+◌, ◌^◌, IfSome, sym, subst}
+use Rattle.std.proofs.Common.{◌<◌, ◌+◌, ◌^◌, IfSome, sym, subst}
 use Rattle.hb_rows.specs.Tables.{project_at}
 use Rattle.hb_model.specs.Built.{HasRoom}
 use Rattle.hb_model.proofs.tests.has_room.Goals as goal
