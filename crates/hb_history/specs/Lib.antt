@@ -1,2 +1,3 @@
+pub mod Associating
 pub mod PresentRows
 pub mod Versions
