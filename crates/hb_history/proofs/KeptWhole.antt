@@ -42,12 +42,12 @@ use Rattle.hb_history.proofs.PairTables.{pairs-rise}
 use Rattle.hb_history.proofs.Settled.{exact-digest, named-pair, settled}
 
 -- ---- what such an entry does
-untaken : (kind : EntryKind) (d : Digest) (s : ℕ) (q : Digest) → Associates kind d s → takes_digest q kind ≡ false
+pub untaken : (kind : EntryKind) (d : Digest) (s : ℕ) (q : Digest) → Associates kind d s → takes_digest q kind ≡ false
 untaken (Associated project digest size) d s q h = refl
 untaken (ArtifactPut name digest size media refs children tag) d s q h = refl
 untaken _ d s q h = absurd h
 
-uncollected : (kind : EntryKind) (d : Digest) (s : ℕ) (q : Digest) → Associates kind d s → collects q kind ≡ false
+pub uncollected : (kind : EntryKind) (d : Digest) (s : ℕ) (q : Digest) → Associates kind d s → collects q kind ≡ false
 uncollected (Associated project digest size) d s q h = refl
 uncollected (ArtifactPut name digest size media refs children tag) d s q h = refl
 uncollected _ d s q h = absurd h
@@ -136,7 +136,7 @@ pair-stays p q (ArtifactPut name digest size media refs children tag) d s x is t
     either false = there
 pair-stays p q _ d s x is there = absurd is
 
-all-filter : {A : Type 0} (P : A → Type 0) (test : A → Bool) (xs : List A) → AllByRecursion P xs → AllByRecursion P (filter test xs)
+pub all-filter : {A : Type 0} (P : A → Type 0) (test : A → Bool) (xs : List A) → AllByRecursion P xs → AllByRecursion P (filter test xs)
 all-filter P test [] h = tt
 all-filter P test (x ∷ xs) h = either (test x) (all-filter P test xs h.1)
   where
