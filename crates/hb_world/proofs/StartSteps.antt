@@ -1,12 +1,12 @@
 -- What a start makes of rows that fit: they are whole with the store, at the moment at which the world starts.
-use Rattle.std.proofs.Common.{◌≡◌, ◌≤◌, ℕ, suc, List, [], ◌∷◌, Option, Some, None, Result, Ok, Err, IfOk, IfSome, ◌⊎◌, inl, inr, max, min, refl, sym, ap, subst, ◌∙◌, negsuc, arith}
+use Rattle.std.proofs.Common.{◌≡◌, ◌≤◌, ℕ, List, [], ◌∷◌, Option, Some, None, Result, Ok, Err, IfOk, IfSome, inl, inr, refl, sym, ap, subst, ◌∙◌, negsuc, arith}
 use Rattle.std.specs.Ordering.{nat_cmp}
 use Rattle.hb_base.specs.Tables.{with_row}
-use Rattle.hb_records.specs.Entries.{AuditEntry, LAST_MOMENT}
+use Rattle.hb_records.specs.Entries.{AuditEntry}
 use Rattle.hb_records.specs.Orders.{entry_key}
 use Rattle.hb_records.specs.declared.batches.Batch.{Batch}
 use Rattle.hb_records.specs.declared.batches.Row.TheVariants as row
-use Rattle.hb_rows.specs.Batches.{after_batch, after_changes, from_oldest, set_row}
+use Rattle.hb_rows.specs.Batches.{after_changes, from_oldest, set_row}
 use Rattle.hb_rows.specs.Tables.{Tables}
 use Rattle.hb_store.specs.Contents.{Contents}
 use Rattle.hb_keeper.specs.Keeps.{after_commit}
@@ -17,7 +17,6 @@ use Rattle.hb_model.specs.Fit.{Tells}
 use Rattle.hb_model.specs.History.{Legal, latest}
 use Rattle.hb_model.specs.LegalProjects.{library}
 use Rattle.hb_model.specs.ProjectEffects.{make_project}
-use Rattle.hb_model.specs.Quiet.{SameContentNotes}
 use Rattle.hb_model.specs.Whole.{IsWhole, no_notes}
 use Rattle.hb_model.specs.declared.misfits.Misfit.{Misfit}
 use Rattle.hb_model.proofs.WholeSteps.{quiet-whole}

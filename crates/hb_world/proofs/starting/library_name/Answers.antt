@@ -1,4 +1,4 @@
-use Rattle.std.proofs.Common.{◌≡◌, ℕ, List, [], ◌∷◌, refl, ap, ◌∙◌, inl, Err, arith}
+use Rattle.std.proofs.Common.{[], ◌∷◌, refl, ap, ◌∙◌, Err, arith}
 use Rattle.hb_text.specs.Names.{IsProjectName}
 use Rattle.hb_model.specs.LegalProjects.{library}
 use Rattle.hb_world.proofs.starting.library_name.Goals as goal
