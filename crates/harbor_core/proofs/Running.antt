@@ -9,7 +9,7 @@ use Rattle.hb_world.specs.Starting.{IsAtRest, IsMisfit, Started}
 use Rattle.hb_world.specs.declared.first.Pushed.{Pushed}
 use Rattle.hb_world.specs.declared.world.StartFault.{StartFault}
 use Rattle.hb_world.specs.declared.world.StartFault.TheVariants as start
-use Rattle.hb_world.proofs.Fitting.{fits-apart}
+use Rattle.hb_model.proofs.FitLaws.{fits-apart}
 use Rattle.harbor_core.specs.Runs.{IsUnstarted, RanTalk, status_of_fault}
 use Rattle.harbor_core.specs.Talks.{Moment, now_of}
 use Rattle.harbor_core.specs.declared.ends.TalkEnd.TheVariants.{Memory}

@@ -1,9 +1,9 @@
 -- Events make a history of a history, and only add entries.
-use Rattle.std.proofs.Common.{◌≡◌, ◌≤◌, ℕ, suc, Bool, true, false, List, [], ◌∷◌, ◌++◌, length, Option, Some, None, Ok, Err, refl, sym, ap, ◌∙◌, append_assoc}
+use Rattle.std.proofs.Common.{◌≡◌, ◌≤◌, ℕ, suc, List, [], ◌∷◌, ◌++◌, length, Option, Some, None, Ok, Err, refl, sym, ap, ◌∙◌, append_assoc}
 use Rattle.hb_records.specs.Entries.{AuditEntry}
 use Rattle.hb_records.specs.declared.entries.EntryKind.{EntryKind}
-use Rattle.hb_model.specs.History.{History, Legal, latest}
-use Rattle.hb_desk.specs.Calls.{Gave, Outcome}
+use Rattle.hb_model.specs.History.{History, latest}
+use Rattle.hb_desk.specs.Calls.{Outcome}
 use Rattle.hb_desk.specs.Clause.{AllFit}
 use Rattle.hb_desk.specs.Events.{Event, happens, after, entered, entry_of, acknowledged}
 use Rattle.hb_desk.specs.Prefix.{GoesOn}

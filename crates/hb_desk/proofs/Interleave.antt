@@ -1,18 +1,16 @@
 -- An event of a caller before which others acted.
-use Rattle.std.proofs.Common.{◌≡◌, ◌≢◌, ◌||◌, ℕ, suc, ◌≤◌, ◌<◌, ◌^◌, Bool, true, false, not, cond, List, [], ◌∷◌, ◌++◌, length, Option, Some, None, Result, Ok, Err, IfSome, is_some, is_err, nat_eq, refl, ap, subst, sym, ◌∙◌, ◌⊎◌, inl, inr, arith}
+use Rattle.std.proofs.Common.{◌≡◌, ◌≢◌, ◌||◌, ℕ, suc, ◌≤◌, ◌<◌, Bool, true, false, not, cond, List, [], ◌∷◌, ◌++◌, length, Option, Some, None, Result, Ok, Err, IfSome, is_some, is_err, nat_eq, refl, ap, subst, sym, ◌∙◌, inr, arith}
 use Rattle.std.proofs.lemmas.Bool.Decides.{nat_tests}
-use Rattle.std.specs.List.{filter}
 use Rattle.hb_outside.specs.Causes.{Rose}
 use Rattle.hb_text.specs.declared.digests.Digest.{Digest}
 use Rattle.hb_records.specs.declared.entries.EntryKind.{EntryKind}
 use Rattle.hb_records.specs.declared.notes.Sealed.{Sealed}
 use Rattle.hb_model.specs.History.{History, latest}
 use Rattle.hb_desk.specs.Alone.{alone_view, is_own, seal_of, with_seal, AloneKnows}
-use Rattle.hb_desk.specs.Calls.{Call, Asked, StagePlaced, Gave, Tells, Outcome, plain}
-use Rattle.hb_desk.specs.Clause.{View, EventOf, EventFrom, Between, MineGrows, Known, Fits, FitsAt, AllFit, Causes, Leaves, Seals, may_be_unmade, moves_seal}
+use Rattle.hb_desk.specs.Calls.{Call, Asked, StagePlaced, Tells, Outcome, plain}
+use Rattle.hb_desk.specs.Clause.{View, EventOf, EventFrom, Between, MineGrows, Known, Fits, FitsAt, AllFit, Causes, Leaves, Seals, moves_seal}
 use Rattle.hb_desk.specs.Events.{Event, happens, after, entry_of, acknowledged}
-use Rattle.hb_desk.specs.Notes.{is_sealed, sealed_at, without_sealed}
-use Rattle.hb_desk.specs.Noting.{noted_ask}
+use Rattle.hb_desk.specs.Notes.{sealed_at, without_sealed}
 use Rattle.hb_desk.specs.Reply.{reply}
 use Rattle.hb_desk.specs.State.{State}
 use Rattle.hb_desk.specs.declared.asks.Ask.{Ask}

@@ -32,20 +32,20 @@ use Rattle.hb_desk.specs.declared.told.Told.TheVariants as told
 
 -- ---- a reply that has an entry met no refusal
 -- the entry of a reply is this kind
-abbrev Makes : Reply → EntryKind → Type 0
+abbrev pub Makes : Reply → EntryKind → Type 0
 Makes r kind = r.entry ≡ Some kind
 
-no-refusal : (cause : Option Refusal) (r : Reply) (kind : EntryKind) → Makes (refuse cause r) kind → (cause ≡ None) × Makes r kind
+pub no-refusal : (cause : Option Refusal) (r : Reply) (kind : EntryKind) → Makes (refuse cause r) kind → (cause ≡ None) × Makes r kind
 no-refusal None r kind h = (refl, h)
 no-refusal (Some x) r kind h = cc h
 
-committed : (j : List AuditEntry) (x : Told) (made kind : EntryKind) → Makes (commits j x made) kind → made ≡ kind
+pub committed : (j : List AuditEntry) (x : Told) (made kind : EntryKind) → Makes (commits j x made) kind → made ≡ kind
 committed j x made kind h = option_some (no-refusal (spent j) (record { outcome = Ok (Tells x); entry = Some made }) kind h).1
   where
     option_some : Some made ≡ Some kind → made ≡ kind
     option_some e = cc e
 
-held : (b : Bool) (x : Refusal) → unless b x ≡ None → b ≡ true
+pub held : (b : Bool) (x : Refusal) → unless b x ≡ None → b ≡ true
 held true x h = refl
 held false x h = cc h
 
@@ -78,7 +78,7 @@ within-limit false None f known h = cc known
 within-limit false (Some x) f known h = cc h
 
 -- what is present is settled with the size that is stored
-present-size : (x : Option StoredItem) (free : Bool) (n : ℕ) → (is_some x && free) ≡ true → option_map (λ (x : StoredItem). x.size) x ≡ Some (unwrap_or (cond (is_some x && free) (option_map (λ (x : StoredItem). x.size) x) None) n)
+pub present-size : (x : Option StoredItem) (free : Bool) (n : ℕ) → (is_some x && free) ≡ true → option_map (λ (x : StoredItem). x.size) x ≡ Some (unwrap_or (cond (is_some x && free) (option_map (λ (x : StoredItem). x.size) x) None) n)
 present-size None free n h = cc h
 present-size (Some x) true n h = refl
 present-size (Some x) false n h = cc h
@@ -148,7 +148,7 @@ seal-legal j t upload d size (Some x) kind later is h =
     let b = no-refusal (still_collecting j d t) _ kind a.1 in
     ends-upload j t upload kind later (ap (λ (y : Option UploadItem). is_some y) is) b.1
 
-some-known : (test : UploadItem → Bool) (x : Option UploadItem) → some_and test x ≡ true → is_some x ≡ true
+pub some-known : (test : UploadItem → Bool) (x : Option UploadItem) → some_and test x ≡ true → is_some x ≡ true
 some-known test None h = cc h
 some-known test (Some x) h = refl
 
@@ -188,7 +188,7 @@ put-legal j t p (Some x) kind later known h =
       may_set = may-tag j p.name p.digest p.tag known c.0;
     }))
 
-show-none : (j : List AuditEntry) (p : List ℕ) (x : Option ProjectItem) (kind : EntryKind) → Makes (show_project j p x) kind → ⊥
+pub show-none : (j : List AuditEntry) (p : List ℕ) (x : Option ProjectItem) (kind : EntryKind) → Makes (show_project j p x) kind → ⊥
 show-none j p None kind h = cc h
 show-none j p (Some x) kind h = cc h
 

@@ -1,3 +1,4 @@
+pub mod AskedWhole
 pub mod Histories
 pub mod Interleave
 pub mod LegalReplies

@@ -3,6 +3,7 @@ pub mod Calls
 pub mod Clause
 pub mod Events
 pub mod Notes
+pub mod Keeping
 pub mod Noting
 pub mod Prefix
 pub mod ProjectVersions

@@ -1,5 +1,5 @@
 -- What the world remembers after an event. What ends a note ends it whatever the event answered.
-use Rattle.std.specs.Prelude.{ℕ, ◌||◌, Bool, true, false, List, ◌∷◌, map, length, Option, Some, None, Result, Ok, Err, if◌then◌else◌}
+use Rattle.std.specs.Prelude.{ℕ, ◌||◌, Bool, true, false, List, ◌∷◌, map, length, Option, Some, None, Ok, Err, if◌then◌else◌}
 use Rattle.hb_records.specs.declared.entries.EntryKind.{EntryKind}
 use Rattle.hb_records.specs.declared.notes.Notes.{Notes}
 use Rattle.hb_records.specs.declared.notes.Sealed.{Sealed}

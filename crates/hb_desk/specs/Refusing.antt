@@ -8,7 +8,7 @@ use Rattle.hb_records.specs.Selectors.{takes_tag}
 use Rattle.hb_records.specs.declared.notes.Notes.{Notes}
 use Rattle.hb_records.specs.declared.notes.Placement.{Placement}
 use Rattle.hb_model.specs.Words.{WINDOW, same_text, same_digest, some_and}
-use Rattle.hb_model.specs.Registry.{ProjectItem, TagItem, UploadItem, project_in, pair_in, artifact_in, tag_in, upload_in}
+use Rattle.hb_model.specs.Registry.{ProjectItem, TagItem, project_in, pair_in, artifact_in, tag_in, upload_in}
 use Rattle.hb_model.specs.Replay.{replay}
 use Rattle.hb_model.specs.Presence.{present, last_taking, usage}
 use Rattle.hb_model.specs.LegalBlobs.{fits_limit}

@@ -1,6 +1,6 @@
 -- What a desk answers to a call at a moment, by the audit and the notes: the first refusal whose cause holds, or
 -- what the call gives, and the entry that it makes.
-use Rattle.std.specs.Prelude.{ℕ, suc, Bool, true, false, ◌||◌, List, length, Option, Some, None, is_some, unwrap_or, Result, Ok, Err, nat_eq, option_and_then, if◌then◌else◌}
+use Rattle.std.specs.Prelude.{ℕ, suc, Bool, true, false, ◌||◌, List, length, Option, Some, None, is_some, unwrap_or, Ok, Err, nat_eq, option_and_then, if◌then◌else◌}
 use Rattle.hb_text.specs.declared.digests.Digest.{Digest}
 use Rattle.hb_text.specs.declared.references.Reference.{Reference}
 use Rattle.hb_text.specs.declared.references.Reference.TheVariants as reference

@@ -5,6 +5,7 @@ ghost use Rattle.hb_model.specs.History.{History, Legal, latest};
 ghost use Rattle.hb_desk.specs.Calls.{Call};
 ghost use Rattle.hb_desk.specs.Clause.{AllFit};
 ghost use Rattle.hb_desk.specs.Events.{Event, after};
+ghost use Rattle.hb_desk.specs.Keeping.{AsksKeepWhole};
 ghost use Rattle.hb_desk.specs.Prefix.{GoesOn};
 ghost use Rattle.hb_desk.specs.Reply.{reply};
 ghost use Rattle.hb_desk.specs.State.{State};
@@ -25,4 +26,9 @@ pub fn events_keep_a_history()
 /// What was seen stays, whatever happens.
 pub fn what_was_seen_stays()
     ensures { (events : List Event) (s : State) → GoesOn s.audit (after events s).audit }
+{}
+
+/// An ask that is answered by its reply or by a fault leaves rows, notes and store that fit one another.
+pub fn asks_keep_the_registry_whole()
+    ensures { AsksKeepWhole }
 {}

@@ -1,6 +1,7 @@
 pub mod Additions
 mod FoundRows
 pub mod IdleRows
+pub mod KeptWhole
 pub mod NamedGrace
 mod PairSteps
 mod PairTables

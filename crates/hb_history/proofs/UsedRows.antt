@@ -30,7 +30,7 @@ use Rattle.hb_model.specs.Replay.{pairs_with, replay, step}
 use Rattle.hb_model.specs.Seen.{seen_pair, seen_project}
 use Rattle.hb_model.proofs.ContentBatches.{used-name}
 use Rattle.hb_model.proofs.SeenRows.{seen-rows}
-use Rattle.hb_history.specs.UsedRows.{used_in}
+use Rattle.hb_model.specs.UsedBound.{used_in}
 use Rattle.hb_history.proofs.PairSteps.{pair_item}
 use Rattle.hb_history.proofs.PairTables.{pairs-rise, weight, usage-weight}
 use Rattle.hb_records.specs.Orders as rows

@@ -1,3 +1,3 @@
+pub mod Associating
 pub mod PresentRows
-pub mod UsedRows
 pub mod Versions

@@ -6,11 +6,13 @@ ghost use Rattle.hb_records.specs.Entries.{AuditEntry};
 ghost use Rattle.hb_store.specs.Contents.{Contents};
 ghost use Rattle.hb_records.specs.declared.notes.Notes.{Notes};
 ghost use Rattle.hb_rows.specs.Tables.{Tables};
-ghost use Rattle.hb_model.specs.History.{History};
+ghost use Rattle.hb_model.specs.Effects.{after_entry};
+ghost use Rattle.hb_model.specs.History.{History, Legal};
 ghost use Rattle.hb_model.specs.Registry.{PairItem, pair_in};
 ghost use Rattle.hb_model.specs.Replay.{replay, size_of};
-ghost use Rattle.hb_model.specs.Sound.{IsSound};
-ghost use Rattle.hb_model.specs.Whole.{IsWhole};
+ghost use Rattle.hb_model.specs.Sound.{HasLength, IsSound, OneLength};
+ghost use Rattle.hb_model.specs.Whole.{IsKept, IsWhole};
+ghost use Rattle.hb_history.specs.Associating.{Associates, FewerPlacements};
 
 /// What a project has counts with the size that is stored.
 pub fn sizes_of_pairs_are_those_stored()
@@ -22,4 +24,14 @@ pub fn sizes_of_pairs_are_those_stored()
 pub fn whole_registries_are_sound()
     ensures { (rows : Tables) (n : Notes) (c : Contents) (t : ℕ) → IsWhole rows n c t
         → IsSound (replay rows.audit) c }
+{}
+
+/// An entry by which a project gets content that the store holds keeps rows, notes and store fitting one another:
+/// the content is held with bytes of its digest, no removal of it may still take effect, and it has the size of
+/// the entry. Of the notes some placements may end with it.
+pub fn content_that_is_held_may_be_associated()
+    ensures { (rows : Tables) (n m : Notes) (c : Contents) (t : ℕ) (e : AuditEntry) (d : Digest) (size : ℕ)
+        → IsWhole rows n c t → Legal rows.audit e → Associates e.kind d size
+        → IsKept c d → (OneLength c → HasLength c d size) → FewerPlacements n m
+        → IsWhole (after_entry rows e) m c e.moment }
 {}

@@ -9,7 +9,7 @@ ghost use Rattle.hb_model.specs.LegalBlobs.{allows};
 ghost use Rattle.hb_model.specs.Presence.{usage};
 ghost use Rattle.hb_model.specs.Registry.{project_in};
 ghost use Rattle.hb_model.specs.Replay.{replay};
-ghost use Rattle.hb_history.specs.UsedRows.{used_in};
+ghost use Rattle.hb_model.specs.UsedBound.{used_in};
 
 /// What a project's row says that it uses is what the sizes of its digests add up to, counted afresh.
 pub fn what_is_used_is_the_recount()

@@ -6,6 +6,7 @@ pub mod ContentBatches
 pub mod EntrySteps
 mod ExampleTurns
 mod ExampleVerdicts
+pub mod FitLaws
 pub mod ProjectNames
 mod Remaking
 mod RetainBatches

@@ -1,12 +1,12 @@
 -- The first component of a repository's name is a project's name.
-use Rattle.std.proofs.Common.{◌≡◌, ℕ, ◌+◌, ◌≤◌, Bool, true, false, not, cond, ◌==◌, List, [], ◌∷◌, ◌++◌, length, take, refl, sym, ap, subst, ◌∙◌, nat_eq, IsTrue, ◌⊎◌, inl, inr, arith}
+use Rattle.std.proofs.Common.{◌≡◌, ℕ, ◌+◌, Bool, false, not, cond, ◌==◌, List, [], ◌∷◌, ◌++◌, length, take, refl, sym, ap, subst, ◌∙◌, nat_eq, IsTrue, inl, inr, arith}
 use Rattle.std.proofs.Math.Seq.{take-append_seam}
 use Rattle.std.proofs.lemmas.List.{length-append}
 use Rattle.std.proofs.lemmas.Bool.Decides.{nat_tests}
 use Rattle.std.specs.List.{AllByRecursion, prefix_len}
-use Rattle.hb_text.specs.Grammar.{Grammar, Matches, joined, byte, is_within, is_lower_or_digit}
+use Rattle.hb_text.specs.Grammar.{Grammar, Matches, joined, byte, is_lower_or_digit}
 use Rattle.hb_text.specs.Grammar.Grammar.{Byte, Then, Or, Many}
-use Rattle.hb_text.specs.Names.{component, path, IsName, IsProjectName, project_of}
+use Rattle.hb_text.specs.Names.{component, IsName, IsProjectName, project_of}
 
 -- the texts of the language have only bytes that pass
 abbrev Only : (ℕ → Bool) → Grammar → Type 0

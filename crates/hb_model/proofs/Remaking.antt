@@ -97,9 +97,10 @@ all-at P (x ∷ es) (suc i) d h within = all-at P es i d h.1 (omega (arith, with
 newest-at : (es : List AuditEntry) (i : ℕ) (e : AuditEntry) → Rises nat_cmp entry_key es → i < length es → e ≡ get_or es i e → IsNewest e.number (take i es)
 newest-at es zero e rises within is = tt
 newest-at [] (suc i) e rises within is = tt
-newest-at (x ∷ es) (suc i) e rises within is =
-    (less-from x.number e.number (subst (λ y. nat_cmp x.number y.number ≡ Less) (sym is) (all-at (λ y. nat_cmp x.number y.number ≡ Less) es i e rises.0 (omega (arith, within)))),
-      newest-at es i e rises.1 (omega (arith, within)) is)
+newest-at (x ∷ es) (suc i) e rises within is = (
+  less-from x.number e.number (subst (λ y. nat_cmp x.number y.number ≡ Less) (sym is) (all-at (λ y. nat_cmp x.number y.number ≡ Less) es i e rises.0 (omega (arith, within)))),
+  newest-at es i e rises.1 (omega (arith, within)) is,
+)
 
 pub goes-newest : (es : List AuditEntry) (i : ℕ) (made : Tables) (e : AuditEntry) → Rises nat_cmp entry_key es → i < length es → e ≡ get_or es i e → Goes es i made → IsNewest e.number made.audit
 goes-newest es i made e rises within is goes =
@@ -114,10 +115,10 @@ goes-unbuilt es i made e within is unbuilt goes =
     let front = take (i + 1) es in
     let here : position_or_len is_unbuilt front ≡ i = unbuilt-next es i e within is goes.built ∙ ap (λ b. i + cond (not b) 0 1) unbuilt ∙ omega arith in
     placed-at (position_or_len is_unbuilt es) i (length es)
-      (ap (position_or_len is_unbuilt) (sym (take-append-drop (i + 1) es))
-        ∙ prefix_len-append (λ x. not (is_unbuilt x)) front (drop (i + 1) es)
-        ∙ stopped (position_or_len is_unbuilt front) (length front) i (length front + prefix_len (λ x. not (is_unbuilt x)) (drop (i + 1) es)) here (length-take-le (i + 1) es (omega (arith, within))))
-      within
+    (ap (position_or_len is_unbuilt) (sym (take-append-drop (i + 1) es))
+    ∙ prefix_len-append (λ x. not (is_unbuilt x)) front (drop (i + 1) es)
+    ∙ stopped (position_or_len is_unbuilt front) (length front) i (length front + prefix_len (λ x. not (is_unbuilt x)) (drop (i + 1) es)) here (length-take-le (i + 1) es (omega (arith, within))))
+    within
 
 -- all entries
 no-place : (n most : ℕ) → most ≤ n → cond (nat_lt n most) (Some n) None ≡ None
@@ -126,9 +127,10 @@ no-place n most more = let past : nat_lt n most ≡ false = grind (arith, nat_te
 pub goes-whole : (t : Tables) (i : ℕ) (made : Tables) → length (entries t) ≤ i → Goes (entries t) i made → (position is_unbuilt (entries t) ≡ None) × (made ≡ rows_of t.audit)
 goes-whole t i made whole goes =
     let es = entries t in
-    let all = take_all i es whole in
-    (no-place (position_or_len is_unbuilt es) (length es) (omega (arith, whole, sym (ap (position_or_len is_unbuilt) all) ∙ goes.built)),
-      goes.rows ∙ ap (λ xs. rows_of (reverse xs)) all ∙ ap rows_of (reverse-reverse t.audit))
+    let all = take_all i es whole in (
+      no-place (position_or_len is_unbuilt es) (length es) (omega (arith, whole, sym (ap (position_or_len is_unbuilt) all) ∙ goes.built)),
+      goes.rows ∙ ap (λ xs. rows_of (reverse xs)) all ∙ ap rows_of (reverse-reverse t.audit),
+    )
 
 pub goes-start : (es : List AuditEntry) → Goes es 0 empty_tables
 goes-start es = record { rows = refl; built = refl; bounded = omega arith }

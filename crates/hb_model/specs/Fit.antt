@@ -1,5 +1,5 @@
 -- Whether rows are those of their audit, and where they aren't, the first place at which they differ.
-use Rattle.std.specs.Prelude.{◌≡◌, ◌≤◌, ◌<◌, ◌+◌, ℕ, suc, not, List, [], ◌∷◌, reverse, length, take, slice_get, Some, None}
+use Rattle.std.specs.Prelude.{◌≡◌, ◌≤◌, ◌<◌, ℕ, suc, not, List, [], ◌∷◌, reverse, length, take, slice_get, Some, None}
 use Rattle.std.specs.declared.option.Option.{Option}
 use Rattle.std.specs.List.{position}
 use Rattle.hb_records.specs.Entries.{AuditEntry}
@@ -95,3 +95,9 @@ TellsFrom None t found = TellsMade t found
 -- what is found tells whether the rows fit, or the first place at which they don't
 abbrev pub Tells : Tables → Option Misfit → Type 0
 Tells t found = TellsFrom (unbuilt_at t) t found
+
+-- None is told exactly of rows that fit, and nothing else is told of them
+pub record FitOrNot (t : Tables) : Type 0 where
+  pub fits : Tells t None → Fits t
+  pub told : Fits t → Tells t None
+  pub apart : (m : Misfit) → Fits t → ¬ (Tells t (Some m))

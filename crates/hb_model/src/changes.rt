@@ -327,21 +327,23 @@ fn artifact_put(
     let row = rows.project(&project);
     let pair = rows.pair(&project, digest);
     let mut made = associated(alloc, stamp, &project, digest, size, row, pair)?;
-    touch_others(alloc, &mut made, rows, stamp, &project, digest, refs.as_slice())?;
+    touch_others(
+        alloc,
+        &mut made,
+        rows,
+        stamp,
+        &project,
+        digest,
+        refs.as_slice(),
+    )?;
     let row = rows.artifact(name, digest);
-    made.push(artifact_pushed(
-        alloc, stamp, name, digest, size, media, refs, children, row,
-    )?)?;
+    made.push(artifact_pushed(alloc, stamp, name, digest, size, media, refs, children, row)?)?;
     tag_put(alloc, &mut made, stamp, name, digest, tag)?;
     Ok(made)
 }
 
 /// The changes that an entry makes of these rows, or None where its kind isn't built.
-pub fn changes_of(
-    alloc: Global,
-    rows: &Rows,
-    entry: &Entry,
-) -> Result<Option<ChangeList>, Memory>
+pub fn changes_of(alloc: Global, rows: &Rows, entry: &Entry) -> Result<Option<ChangeList>, Memory>
     requires room { HasRoom rows.now entry.now.kind }
     ensures built { IfOk result (λ found. is_some found ≡ is_built entry.now.kind) }
     ensures changes { IfOk result (λ found. IfSome found (λ made. made ≡ changes_of_entry rows.now entry.now)) }

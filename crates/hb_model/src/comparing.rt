@@ -61,9 +61,7 @@ impl Same for ImmuteRule {
 
 impl Same for RetainRule {
     fn same(&self, other: &RetainRule) -> bool {
-        self.template == other.template
-            && self.repo.same(&other.repo)
-            && self.tag.same(&other.tag)
+        self.template == other.template && self.repo.same(&other.repo) && self.tag.same(&other.tag)
     }
 }
 

@@ -9,7 +9,8 @@ ghost use Rattle.hb_rows.specs.Batches.{after_changes, after_batch};
 ghost use Rattle.hb_model.specs.BlobRows.{BarTells};
 ghost use Rattle.hb_model.specs.Changes.{changes, changes_of};
 ghost use Rattle.hb_model.specs.Effects.{effect, rows_of};
-ghost use Rattle.hb_model.specs.History.{History};
+ghost use Rattle.hb_model.specs.Fit.{FitOrNot, Fits, unbuilt_at};
+ghost use Rattle.hb_model.specs.History.{History, Stands};
 ghost use Rattle.hb_model.specs.Numbered.{IsNumbered};
 ghost use Rattle.hb_model.specs.Registry.{empty_registry};
 ghost use Rattle.hb_model.specs.Replay.{replay};
@@ -66,4 +67,15 @@ pub fn histories_are_numbered()
 /// sizes does.
 pub fn what_is_used_is_bounded()
     ensures { (j : List AuditEntry) → UsedIsBounded j }
+{}
+
+/// What `fit` tells is one of two: None exactly where the rows are what their entries make, in order, of kinds
+/// that are built; a first misfit only where they aren't.
+pub fn rows_fit_or_not()
+    ensures { (t : Tables) → FitOrNot t }
+{}
+
+/// The rows of a legal audit fit, if their entries are of kinds that are built.
+pub fn rows_that_stand_fit()
+    ensures { (t : Tables) → Stands t → unbuilt_at t ≡ None → Fits t }
 {}

@@ -1,9 +1,15 @@
 //! What the registry means: what clients see after an audit, which audits are legal, which rows are those of an
 //! audit, and what every event keeps. docs/DEFINITIONS.md has each definition in a sentence.
 //!
-//! An audit is the list of its entries, the newest first. There is no code here yet: who stands above cites
-//! the definitions.
+//! An audit is the list of its entries, the newest first. The code makes the changes of six of the 24 kinds of entries,
+//! counts afresh what a project uses, and tells whether rows are those of their audit. The definitions and the
+//! laws are of all kinds.
 //!
+//! - [`changes`]: the changes by which a batch makes an entry's effect, of rows that were looked up;
+//!   [`changes::changes_of`] looks them up. `specs/Built`: the kinds that are built.
+//! - [`usage_of`]: the recount. It is `usage` of `specs/Presence`.
+//! - [`fit`]: whether rows fit, or the first [`Misfit`]. `specs/Fit`: what it tells.
+//! - [`names`]: the project of a repository.
 //! - `specs/Registry`, `specs/Replay`: what clients can see, and what they see after an audit.
 //! - `specs/Moves`, `specs/Presence`, `specs/Grace`: which entries are about a digest, whether the store holds it,
 //!   what a project uses and needs, and when something may go.
@@ -25,9 +31,11 @@ pub mod laws;
 mod misfits;
 pub mod names;
 pub mod quiet;
+mod usage;
 
 pub use fitting::fit;
 pub use misfits::Misfit;
+pub use usage::usage_of;
 
 #[cfg(test)]
 mod tests;

@@ -18,8 +18,8 @@ use Rattle.hb_model.specs.Effects.{effect, rows_of}
 use Rattle.hb_model.specs.History.{History}
 use Rattle.hb_model.specs.ProjectEffects.{new_project, with_used}
 use Rattle.hb_model.specs.Words.{same_text}
+use Rattle.hb_model.specs.UsedBound.{used_in}
 use Rattle.hb_model.proofs.ContentBatches.{used-name}
-use Rattle.hb_history.specs.UsedRows.{used_in}
 use Rattle.hb_history.proofs.UsedRows.{used-rows}
 use Rattle.hb_desk.specs.ProjectVersions.{sets_project, project_version}
 

@@ -22,7 +22,7 @@ use Rattle.hb_model.specs.Registry.{StoredItem, TagItem, project_in, artifact_in
 use Rattle.hb_model.specs.Replay.{replay}
 use Rattle.hb_model.specs.Seen.{seen_project, seen_pair, seen_artifact, seen_tag, seen_upload, seen_blob}
 use Rattle.hb_model.specs.Words.{same_text, some_and}
-use Rattle.hb_history.specs.UsedRows.{used_in}
+use Rattle.hb_model.specs.UsedBound.{used_in}
 use Rattle.hb_desk.specs.Calls.{Call, Asked, StageTaken, StagePlaced, StageDropped, BlobOpened, ManifestOpened, Tells, Number, Dropped}
 use Rattle.hb_desk.specs.Notes.{is_out, placement_of}
 use Rattle.hb_desk.specs.ProjectVersions.{project_version}

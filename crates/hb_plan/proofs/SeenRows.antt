@@ -12,8 +12,8 @@ use Rattle.hb_model.specs.Presence.{usage}
 use Rattle.hb_model.specs.Registry.{project_name, pair_key, artifact_key, tag_key, upload_key, stored_key, project_in, pair_in, artifact_in, tag_in, upload_in, stored_in}
 use Rattle.hb_model.specs.Replay.{replay}
 use Rattle.hb_model.specs.Seen.{seen, seen_project, seen_pair, seen_artifact, seen_tag, seen_upload, seen_blob}
+use Rattle.hb_model.specs.UsedBound.{used_in}
 use Rattle.hb_model.proofs.SeenRows.{seen-rows}
-use Rattle.hb_history.specs.UsedRows.{used_in}
 use Rattle.hb_history.proofs.UsedRows.{used-rows}
 
 pub some-mapped : {A B : Type 0} (f : A → B) (x : Option A) → is_some (option_map f x) ≡ is_some x

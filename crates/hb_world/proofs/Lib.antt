@@ -1,4 +1,3 @@
-pub mod Fitting
 pub mod Opening
 pub mod Standing
 pub mod ReadPages

@@ -1,12 +1,12 @@
 -- What a start makes of rows that fit: they are whole with the store, at the moment at which the world starts.
-use Rattle.std.proofs.Common.{◌≡◌, ◌≤◌, ℕ, suc, List, [], ◌∷◌, Option, Some, None, Result, Ok, Err, IfOk, IfSome, ◌⊎◌, inl, inr, max, min, refl, sym, ap, subst, ◌∙◌, negsuc, arith}
+use Rattle.std.proofs.Common.{◌≡◌, ◌≤◌, ℕ, List, [], ◌∷◌, Option, Some, None, Result, Ok, Err, IfOk, IfSome, inl, inr, refl, sym, ap, subst, ◌∙◌, negsuc, arith}
 use Rattle.std.specs.Ordering.{nat_cmp}
 use Rattle.hb_base.specs.Tables.{with_row}
-use Rattle.hb_records.specs.Entries.{AuditEntry, LAST_MOMENT}
+use Rattle.hb_records.specs.Entries.{AuditEntry}
 use Rattle.hb_records.specs.Orders.{entry_key}
 use Rattle.hb_records.specs.declared.batches.Batch.{Batch}
 use Rattle.hb_records.specs.declared.batches.Row.TheVariants as row
-use Rattle.hb_rows.specs.Batches.{after_batch, after_changes, from_oldest, set_row}
+use Rattle.hb_rows.specs.Batches.{after_changes, from_oldest, set_row}
 use Rattle.hb_rows.specs.Tables.{Tables}
 use Rattle.hb_store.specs.Contents.{Contents}
 use Rattle.hb_keeper.specs.Keeps.{after_commit}
@@ -17,12 +17,11 @@ use Rattle.hb_model.specs.Fit.{Tells}
 use Rattle.hb_model.specs.History.{Legal, latest}
 use Rattle.hb_model.specs.LegalProjects.{library}
 use Rattle.hb_model.specs.ProjectEffects.{make_project}
-use Rattle.hb_model.specs.Quiet.{SameContentNotes}
 use Rattle.hb_model.specs.Whole.{IsWhole, no_notes}
 use Rattle.hb_model.specs.declared.misfits.Misfit.{Misfit}
 use Rattle.hb_model.proofs.WholeSteps.{quiet-whole}
 use Rattle.hb_world.specs.Starting.{CanStart, IsWorld, Started, first_entry, opened_by, start_moment}
-use Rattle.hb_world.proofs.Fitting.{fits-apart}
+use Rattle.hb_model.proofs.FitLaws.{fits-apart}
 
 -- ---- the first entry
 -- its batch makes what it does
@@ -62,7 +61,7 @@ later-whole t c now later after h = record {
 opened-whole : (t : Tables) (c : Contents) (moment : ℕ) (j : List AuditEntry) → t.audit ≡ j → latest t.audit ≤ moment → IsWhole t no_notes c (latest t.audit) → IsWhole (opened_by j moment t) no_notes c moment
 opened-whole t c moment [] none after h =
     quiet-whole t no_notes no_notes c (latest t.audit) (first_entry moment) h (subst (λ j. Legal j (first_entry moment)) (sym none) (first-legal moment)) refl
-      (record { sealed = refl; placements = refl; spells = refl; sightings = refl })
+    (record { sealed = refl; placements = refl; spells = refl; sightings = refl })
 opened-whole t c moment (e ∷ j) some after h = later-whole t c (latest t.audit) moment after h
 
 pub started-world : (rows : Option Tables) (contents : Option Contents) (now : ℕ) (after : Option Tables) (moment : ℕ) → CanStart rows contents → Started rows now after moment → IsWorld after contents moment
@@ -72,7 +71,7 @@ started-world (Some t) (Some c) now after moment (inl misfit) started = absurd (
 started-world (Some t) (Some c) now after moment (inr rest) started =
     let at = start_moment t now in
     subst (λ rows. IsWorld rows (Some c) moment) (sym started.1)
-      (subst (λ m. IsWhole (opened_by t.audit at t) no_notes c m) (sym started.2) (opened-whole t c at t.audit refl (omega arith) rest))
+    (subst (λ m. IsWhole (opened_by t.audit at t) no_notes c m) (sym started.2) (opened-whole t c at t.audit refl (omega arith) rest))
 
 -- ---- refusals
 pub told-misfit : (before : Option Tables) (rows : Tables) (m n : Misfit) → Tells rows (Some m) → IfSome before (λ t. rows ≡ t) → m ≡ n → IfSome before (λ t. Tells t (Some n))

@@ -1,13 +1,15 @@
 //! A world: the rows of a keeper and the contents of a store that fit one another.
-ghost use Rattle.std.specs.Prelude.{◌≡◌, ◌≤◌, IfOk, IfErr};
+ghost use Rattle.std.specs.Prelude.{◌≡◌, ◌≤◌, Some, IfOk, IfErr};
 ghost use Rattle.hb_keeper.specs.declared.keeper.KeepFault.TheVariants as keep;
+ghost use Rattle.hb_rows.specs.Tables.{empty_tables};
+ghost use Rattle.hb_store.specs.MemStores.{empty_contents};
 ghost use Rattle.hb_world.specs.Starting.{CanStart, IsAtRest, Refused, Started};
 ghost use Rattle.hb_world.specs.declared.world.StartFault.TheVariants.{Failed, Memory};
 
 use crate::starting::ready;
 use hb_keeper::{KeepFault, Keeper};
 use hb_model::Misfit;
-use hb_records::{Memory, Table};
+use hb_records::Memory;
 use hb_store::Store;
 use std::alloc::Global;
 use std::error::Error;
@@ -25,28 +27,10 @@ pub enum StartFault {
     Memory,
 }
 
-// The name of a table.
-fn word(table: Table) -> &'static str {
-    match table {
-        Table::Project => "project",
-        Table::Blob => "blob",
-        Table::Pair => "pair",
-        Table::Artifact => "artifact",
-        Table::Tag => "tag",
-        Table::Upload => "upload",
-        Table::Job => "job",
-        Table::Candidate => "candidate",
-        Table::Snap => "snap",
-        Table::Entry => "entry",
-    }
-}
-
 impl fmt::Display for StartFault {
     fn fmt<W: fmt::Write>(&self, f: &mut fmt::Formatter<W>) -> fmt::Result {
         match self {
-            StartFault::Misfit(Misfit { table, place }) => {
-                write!(f, "rows do not fit {} {}", word(*table), place)
-            }
+            StartFault::Misfit(misfit) => write!(f, "rows do not fit {}", misfit),
             StartFault::Failed => write!(f, "rows failed"),
             StartFault::Memory => write!(f, "memory"),
         }
@@ -102,6 +86,12 @@ impl<K: Keeper, S: Store> Model for World<K, S> {
 
     ghost invariant = { λ w. IsWorld (K.rows w.keeper) (S.contents w.store) w.moment };
 }
+
+/// A keeper without a row and a store without content are at rest. It does nothing, and its contract is this
+/// law, by which a world can start on new devices.
+pub fn empty_devices_are_at_rest()
+    ensures { IsAtRest (Some empty_tables) (Some empty_contents) }
+{}
 
 impl<K: Keeper, S: Store> World<K, S> {
     /// A world over rows that fit their audit. Rows without an audit get its first entry, which makes the

@@ -1,4 +1,4 @@
-use Rattle.std.proofs.Common.{◌≡◌, Option, Some, subst}
+use Rattle.std.proofs.Common.{◌≡◌, subst}
 use Rattle.hb_model.specs.Fit.{Tells}
 use Rattle.hb_model.specs.declared.misfits.Misfit.{Misfit}
 use Rattle.hb_world.specs.declared.world.StartFault.TheVariants as fault

@@ -1,9 +1,8 @@
-use Rattle.std.proofs.Common.{◌≡◌, ◌∷◌, ap, refl, sym, subst, ◌∙◌, arith, rules}
+use Rattle.std.proofs.Common.{◌≡◌, ◌∷◌, ap, sym, subst, ◌∙◌, arith, rules}
 use Rattle.std.specs.Prelude.{slice_set}
-use Rattle.hb_desk.specs.Alone.{AloneKnows, with_seal}
-use Rattle.hb_desk.specs.Calls.{Asked, Tells, plain}
+use Rattle.hb_desk.specs.Alone.{with_seal}
 use Rattle.hb_desk.specs.Clause.{Seals}
-use Rattle.hb_desk.proofs.Interleave.{alone-ask, alone-memory, causes-after, keeps-asked, knows-asked, seals-asked, sealed_after, sealed-kept}
+use Rattle.hb_desk.proofs.Interleave.{alone-ask, alone-memory, seals-asked, sealed-kept}
 use Rattle.hb_desk.proofs.alone.AloneDesk.ask.Goals as goal
 
 pub returns-then-is_err-clause-event : goal.returns-then-is_err-clause-event

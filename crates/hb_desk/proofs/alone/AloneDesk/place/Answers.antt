@@ -1,7 +1,6 @@
 use Rattle.std.proofs.Common.{refl, sym, subst}
-use Rattle.hb_desk.specs.Alone.{AloneKnows, alone_view}
+use Rattle.hb_desk.specs.Alone.{AloneKnows}
 use Rattle.hb_desk.specs.Calls.{StagePlaced}
-use Rattle.hb_desk.specs.Clause.{Causes}
 use Rattle.hb_desk.proofs.Interleave.{alone-quiet, knows-placed, causes-after, keeps-placed}
 use Rattle.hb_desk.proofs.alone.AloneDesk.place.Goals as goal
 
