@@ -1,4 +1,5 @@
--- Where all entries are of the built kinds: nothing is taken, what is stored is present, and no project has rules.
+-- Where all entries are of the built kinds: nothing is taken, what is stored is present, and no project has
+-- rules.
 use Rattle.std.proofs.Common.{◌≡◌, ℕ, ◌+◌, nat_eq, nat_lt, Bool, true, false, not, cond, ◌&&◌, ◌||◌, List, [], ◌∷◌, suc, Option, Some, None, option_map, option_and_then, is_some, find, IfSome, refl, sym, ap, subst, ◌∙◌}
 use Rattle.std.specs.List.{AllByRecursion, list_any, position}
 use Rattle.hb_base.proofs.TableLaws.{row_at-with}

@@ -23,8 +23,8 @@ use Rattle.hb_model.proofs.ContentBatches.{used-name}
 use Rattle.hb_history.proofs.UsedRows.{used-rows}
 use Rattle.hb_desk.specs.ProjectVersions.{sets_project, project_version}
 
--- The row of a project before and after an entry of this number: its version moves where the entry sets the project,
--- or what is used moves.
+-- The row of a project before and after an entry of this number: its version moves where the entry sets the
+-- project, or what is used moves.
 abbrev Follows : ℕ → Bool → Option Project → Option Project → Type 0
 Follows n sets x y = (v : ℕ) → IfSome x (λ row. row.version ≡ v) → IfSome y (λ row. row.version ≡ cond (sets || not (nat_eq (used_in y) (used_in x))) n v)
 

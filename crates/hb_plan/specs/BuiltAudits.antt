@@ -1,4 +1,5 @@
--- Audits with entries of the kinds alone that are built: nothing is taken from the store, and no project has rules.
+-- Audits with entries of the kinds alone that are built: nothing is taken from the store, and no project has
+-- rules.
 use Rattle.std.specs.Prelude.{◌≡◌, List, IsTrue}
 use Rattle.std.specs.List.{AllByRecursion}
 use Rattle.hb_records.specs.Entries.{AuditEntry}

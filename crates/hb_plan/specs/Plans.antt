@@ -19,7 +19,8 @@ use Rattle.hb_plan.specs.declared.planned.Planned.{Planned}
 abbrev pub IsPlanFault : Refusal → Type 0
 IsPlanFault refusal = (refusal ≡ Memory) ⊎ (refusal ≡ Keeper)
 
--- The batch of a reply's entry: it has the entry, with this number and moment, and the entry's changes of the rows.
+-- The batch of a reply's entry: it has the entry, with this number and moment, and the entry's changes of the
+-- rows.
 abbrev pub BatchOf : Option EntryKind → Tables → ℕ → ℕ → Option Batch → Type 0
 BatchOf None r n t None = Unit {0}
 BatchOf None r n t (Some b) = ⊥

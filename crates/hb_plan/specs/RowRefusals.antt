@@ -1,5 +1,6 @@
--- The causes of the refusals, each read from the rows: the refusal where it is to come, else None. While audits have
--- entries of the built kinds alone, no tag is immutable, no removal is under way, and nothing placed is gone.
+-- The causes of the refusals, each read from the rows: the refusal where it is to come, else None. While audits
+-- have entries of the built kinds alone, no tag is immutable, no removal is under way, and nothing placed is
+-- gone.
 use Rattle.std.specs.Prelude.{ℕ, ◌+◌, Bool, not, ◌||◌, List, Option, Some, None, is_some, unwrap_or, nat_eq, option_map}
 use Rattle.std.specs.List.{find}
 use Rattle.hb_text.specs.declared.digests.Digest.{Digest}

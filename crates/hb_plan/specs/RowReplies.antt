@@ -1,5 +1,5 @@
--- What a desk answers to a call, read over the rows of its audit: each look-up is that of a table, what a project
--- uses and its version stand in its row, and a digest's size in its blob's row.
+-- What a desk answers to a call, read over the rows of its audit: each look-up is that of a table, what a
+-- project uses and its version stand in its row, and a digest's size in its blob's row.
 use Rattle.std.specs.Prelude.{ℕ, suc, Bool, true, false, ◌||◌, List, length, Option, Some, None, is_some, nat_eq, option_and_then, if◌then◌else◌}
 use Rattle.hb_text.specs.declared.digests.Digest.{Digest}
 use Rattle.hb_text.specs.declared.references.Reference.{Reference}

@@ -15,8 +15,8 @@ ghost use Rattle.hb_desk.specs.State.{State};
 ghost use Rattle.hb_plan.specs.BuiltAudits.{AllBuilt, NoneGone};
 ghost use Rattle.hb_plan.specs.RowReplies.{row_reply};
 
-/// Over rows that stand, what the rows answer is what the audit answers, where its entries are of the built kinds
-/// and no placement is gone.
+/// Over rows that stand, what the rows answer is what the audit answers, where its entries are of the built
+/// kinds and no placement is gone.
 pub fn rows_answer_as_the_audit()
     ensures { (rows : Tables) (notes : Notes) (call : Call) (t : ℕ)
         → Stands rows → AllBuilt rows.audit → NoneGone notes

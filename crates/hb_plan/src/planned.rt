@@ -16,8 +16,8 @@ pub(crate) struct Holding {
     pub pair: Option<Assoc>,
 }
 
-// What a manifest is decided by: the first reference that the project hasn't, the first child that the repository
-// hasn't, and what the project has of the manifest's own digest.
+// What a manifest is decided by: the first reference that the project hasn't, the first child that the
+// repository hasn't, and what the project has of the manifest's own digest.
 #[derive(Drop)]
 pub(crate) struct Parts {
     pub missing_ref: Option<Digest>,

@@ -173,12 +173,12 @@ fn plan_pull<K: Keeper>(
     pull(alloc, stamp, name, digest, &row)
 }
 
-/// What an ask is told, and the batch of its entry, decided over the keeper's rows and these placements. Nothing is
-/// changed: who plans commits the batch.
+/// What an ask is told, and the batch of its entry, decided over the keeper's rows and these placements.
+/// Nothing is changed: who plans commits the batch.
 ///
-/// `number` is that of the next entry, and `moment` is at most [`hb_records::MAX_MOMENT`]. An `Err` is the reply's
-/// refusal, or Keeper where the keeper's count of faults rose, or Memory. Memory comes also where what a project
-/// uses would pass its type.
+/// `number` is that of the next entry, and `moment` is at most [`hb_records::MAX_MOMENT`]. An `Err` is the
+/// reply's refusal, or Keeper where the keeper's count of faults rose, or Memory. Memory comes also where what
+/// a project uses would pass its type.
 pub fn plan<K: Keeper>(
     alloc: Global,
     keeper: &mut K,

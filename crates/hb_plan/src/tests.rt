@@ -39,7 +39,8 @@ fn library(alloc: Global) -> Result<ProjectName, Fail> {
     Ok(ProjectName::read(alloc, b"library")?)
 }
 
-// A keeper of the project `library`, which may use 12 bytes. These of its calls fail; the first makes the project.
+// A keeper of the project `library`, which may use 12 bytes. These of its calls fail; the first makes the
+// project.
 fn opened(alloc: Global, fails: &[u64]) -> Result<MemKeeper, Fail> {
     let mut keeper = MemKeeper::new(alloc, fails.to_vec(alloc)?);
     let stamp = Stamp {
@@ -308,7 +309,8 @@ fn a_manifest_is_refused_in_order_and_then_put(rt: HostRuntime) -> Result<(), Fa
     Ok(())
 }
 
-// Six calls make the project and settle what the manifest refers to. The plan makes seven, and behind them none fails.
+// Six calls make the project and settle what the manifest refers to. The plan makes seven, and behind them
+// none fails.
 #[test]
 fn a_put_is_refused_where_the_keeper_fails(rt: HostRuntime) -> Result<(), Fail> {
     let alloc = rt.alloc();
