@@ -3,7 +3,7 @@
 use crate::laws::{
     a_row_has_the_version_of_its_project, built_entries_stay, rows_answer_as_the_audit,
 };
-use crate::plan;
+use crate::{Planned, plan};
 use hb_desk::{Ask, Refusal, Told};
 use hb_keeper::{Keeper, MemKeeper};
 use hb_model::changes::{Stamp, project_made};
@@ -39,24 +39,34 @@ fn library(alloc: Global) -> Result<ProjectName, Fail> {
     Ok(ProjectName::read(alloc, b"library")?)
 }
 
-// A keeper of the project `library`, which may use 12 bytes. These of its calls fail; the first makes the
-// project.
-fn opened(alloc: Global, fails: &[u64]) -> Result<MemKeeper, Fail> {
-    let mut keeper = MemKeeper::new(alloc, fails.to_vec(alloc)?);
+fn first_batch(alloc: Global) -> Result<Batch, Fail> {
     let stamp = Stamp {
         number: 1,
         moment: NOW,
     };
     let project = library(alloc)?;
     let changes = project_made(alloc, stamp, &project, 12)?;
-    keeper.commit(&Batch {
+    Ok(Batch {
         changes,
         entry: Entry {
             number: 1,
             moment: NOW,
             kind: EntryKind::ProjectMade { project, limit: 12 },
         },
-    })?;
+    })
+}
+
+fn commit_first(keeper: &mut MemKeeper, alloc: Global) -> Result<(), Fail> {
+    let batch = first_batch(alloc)?;
+    keeper.commit(&batch)?;
+    Ok(())
+}
+
+// A keeper of the project `library`, which may use 12 bytes. These of its calls fail; the first makes the
+// project.
+fn opened(alloc: Global, fails: &[u64]) -> Result<MemKeeper, Fail> {
+    let mut keeper = MemKeeper::new(alloc, fails.to_vec(alloc)?);
+    commit_first(&mut keeper, alloc)?;
     Ok(keeper)
 }
 
@@ -71,15 +81,20 @@ fn placements() -> [Placement; 3] {
     })
 }
 
+fn commit(keeper: &mut MemKeeper, planned: &Planned) -> Result<(), Fail> {
+    if let Some(batch) = &planned.batch {
+        keeper.commit(batch)?;
+    }
+    Ok(())
+}
+
 // Plans the ask and commits its batch. It gives the refusal, where there is one.
-fn refusal_of(keeper: &mut MemKeeper, alloc: Global, ask: &Ask) -> Result<Option<Refusal>, Fail> {
+fn refusal_of(keeper: &mut MemKeeper, alloc: Global, ask: Ask) -> Result<Option<Refusal>, Fail> {
     let number = keeper.meta()?.entries + 1;
-    match plan(alloc, keeper, &placements(), ask, number, NOW) {
+    match plan(alloc, keeper, &placements(), &ask, number, NOW) {
         Err(refusal) => Ok(Some(refusal)),
         Ok(planned) => {
-            if let Some(batch) = &planned.batch {
-                keeper.commit(batch)?;
-            }
+            commit(keeper, &planned)?;
             Ok(None)
         }
     }
@@ -126,6 +141,36 @@ fn put(
     })
 }
 
+// A repository, an upload, the digest and the size of a manifest, and what it refers to.
+type Manifest = (&'static [u8], u64, (u8, u64), &'static [u8], &'static [u8]);
+
+fn put_of(alloc: Global, manifest: &Manifest) -> Result<PutAsk, Fail> {
+    let (name, _, (byte, size), refs, children) = *manifest;
+    put(alloc, name, byte, size, refs, children)
+}
+
+// What sealing the manifest is refused by.
+fn seal_refused(
+    keeper: &mut MemKeeper,
+    alloc: Global,
+    manifest: &Manifest,
+) -> Result<Option<Refusal>, Fail> {
+    let put = put_of(alloc, manifest)?;
+    let upload = manifest.1;
+    refusal_of(keeper, alloc, Ask::SealManifest { upload, put })
+}
+
+// What putting the manifest is refused by.
+fn put_refused(
+    keeper: &mut MemKeeper,
+    alloc: Global,
+    manifest: &Manifest,
+) -> Result<Option<Refusal>, Fail> {
+    let put = put_of(alloc, manifest)?;
+    let upload = manifest.1;
+    refusal_of(keeper, alloc, Ask::PutArtifact { upload, put })
+}
+
 fn pull(alloc: Global, byte: u8) -> Result<Ask, Fail> {
     Ok(Ask::NotePull {
         name: Name::read(alloc, b"library/a")?,
@@ -164,174 +209,191 @@ fn shown(
     }
 }
 
+// The size, the last pull and the version of the manifest's row; whether its tag names it, and the tag's version; and
+// the version of the blob that it refers to.
+fn put_rows(
+    keeper: &mut MemKeeper,
+    alloc: Global,
+) -> Result<((u64, u64, u64), (bool, u64), u64), Fail> {
+    let name = Name::read(alloc, b"library/a")?;
+    let (Some(artifact), Some(tag), Some(blob)) = (
+        keeper.artifact(&name, &digest(3))?,
+        keeper.tag(&name, &Tag::read(alloc, b"v1")?)?,
+        keeper.blob(&digest(1))?,
+    ) else {
+        return Err(Fail::new("not put"));
+    };
+    Ok((
+        (artifact.size, artifact.pulled, artifact.version),
+        (tag.digest == digest(3), tag.version),
+        blob.version,
+    ))
+}
+
+#[test]
+fn uploads_begin_and_end(rt: HostRuntime) -> Result<(), Fail> {
+    let alloc = rt.alloc();
+    let mut keeper = opened(alloc, &[])?;
+    let begins: [(&[u8], Option<Refusal>); 3] = [
+        (b"other/a", Some(Refusal::NoProject)),
+        (b"library/a", None),
+        (b"library/a", None),
+    ];
+    for (name, want) in &begins {
+        let ask = begin(alloc, name)?;
+        assert_eq!(rt; refusal_of(&mut keeper, alloc, ask)?, *want);
+    }
+    let ends = [
+        (1, 3, Some(Refusal::JobUnknown)),
+        (0, 4, Some(Refusal::UploadUnknown)),
+        (0, 3, None),
+    ];
+    for (job, upload, want) in &ends {
+        let ask = Ask::EndUpload {
+            job: *job,
+            upload: *upload,
+        };
+        assert_eq!(rt; refusal_of(&mut keeper, alloc, ask)?, *want);
+    }
+    Ok(())
+}
+
+#[test]
+fn content_is_refused_in_order_and_then_sealed(rt: HostRuntime) -> Result<(), Fail> {
+    let alloc = rt.alloc();
+    let mut keeper = opened(alloc, &[])?;
+    let ask = begin(alloc, b"library/a")?;
+    assert_eq!(rt; refusal_of(&mut keeper, alloc, ask)?, None);
+    let seals = [
+        (3, 10, Some(Refusal::UploadUnknown)),
+        (2, 13, over(0, 13)),
+        (2, 12, None),
+    ];
+    for (upload, size, want) in &seals {
+        assert_eq!(rt;
+            refusal_of(&mut keeper, alloc, seal(*upload, *size))?,
+            *want
+        );
+    }
+    assert_eq!(rt; keeper.upload(2)?.is_none(), true);
+    assert_eq!(rt; keeper.rows().entries().len(), 3);
+    Ok(())
+}
+
+// The size that the project has content 1 with, and the version of its row.
+fn settled_rows(keeper: &mut MemKeeper, alloc: Global) -> Result<(Option<u64>, Option<u64>), Fail> {
+    let pair = keeper.pair(&library(alloc)?, &digest(1))?;
+    let blob = keeper.blob(&digest(1))?;
+    Ok((pair.map(|row| row.size), blob.map(|row| row.version)))
+}
+
 #[test]
 fn content_is_refused_in_order_and_then_settled(rt: HostRuntime) -> Result<(), Fail> {
     let alloc = rt.alloc();
     let mut keeper = opened(alloc, &[])?;
-    let steps = [
-        (begin(alloc, b"other/a")?, Some(Refusal::NoProject)),
-        (begin(alloc, b"library/a")?, None),
-        (begin(alloc, b"library/a")?, None),
-        (
-            Ask::EndUpload { job: 1, upload: 3 },
-            Some(Refusal::JobUnknown),
-        ),
-        (
-            Ask::EndUpload { job: 0, upload: 4 },
-            Some(Refusal::UploadUnknown),
-        ),
-        (Ask::EndUpload { job: 0, upload: 3 }, None),
-        (seal(3, 10), Some(Refusal::UploadUnknown)),
-        (seal(2, 13), over(0, 13)),
-        (seal(2, 12), None),
-        (settle(alloc, b"other/a", 2, 1)?, Some(Refusal::NoProject)),
-        (settle(alloc, b"library/a", 3, 1)?, Some(Refusal::NotPlaced)),
-        (settle(alloc, b"library/a", 2, 1)?, None),
-        (settle(alloc, b"library/a", 2, 1)?, None),
-        (settle(alloc, b"library/a", 2, 2)?, over(10, 3)),
+    let settles: [(&[u8], u64, u8, Option<Refusal>); 5] = [
+        (b"other/a", 2, 1, Some(Refusal::NoProject)),
+        (b"library/a", 3, 1, Some(Refusal::NotPlaced)),
+        (b"library/a", 2, 1, None),
+        (b"library/a", 2, 1, None),
+        (b"library/a", 2, 2, over(10, 3)),
     ];
-    for (ask, want) in &steps {
+    for (name, upload, byte, want) in &settles {
+        let ask = settle(alloc, name, *upload, *byte)?;
         assert_eq!(rt; refusal_of(&mut keeper, alloc, ask)?, *want);
     }
-    assert_eq!(rt; shown(&mut keeper, alloc, b"library")?, Some((12, 10, 6)));
+    assert_eq!(rt; shown(&mut keeper, alloc, b"library")?, Some((12, 10, 2)));
     assert_eq!(rt; shown(&mut keeper, alloc, b"other")?, None);
-    assert_eq!(rt; keeper.upload(2)?.is_none(), true);
-    let pair = keeper.pair(&library(alloc)?, &digest(1))?;
-    assert_eq!(rt; pair.map(|row| row.size), Some(10));
-    assert_eq!(rt; keeper.blob(&digest(1))?.map(|row| row.version), Some(7));
+    assert_eq!(rt; settled_rows(&mut keeper, alloc)?, (Some(10), Some(3)));
     Ok(())
 }
 
+#[test]
+fn a_manifest_is_refused_in_order_and_then_sealed(rt: HostRuntime) -> Result<(), Fail> {
+    let alloc = rt.alloc();
+    let mut keeper = opened(alloc, &[])?;
+    let ask = begin(alloc, b"library/a")?;
+    assert_eq!(rt; refusal_of(&mut keeper, alloc, ask)?, None);
+    let refused = seal_refused(&mut keeper, alloc, &(b"library/a", 2, (3, 2), &[1], &[]))?;
+    assert_eq!(rt; refused, Some(Refusal::MissingRef { digest: digest(1) }));
+    let ask = settle(alloc, b"library/a", 2, 1)?;
+    assert_eq!(rt; refusal_of(&mut keeper, alloc, ask)?, None);
+    let seals: [(Manifest, Option<Refusal>); 4] = [
+        (
+            (b"library/b", 2, (3, 2), &[1], &[]),
+            Some(Refusal::UploadUnknown),
+        ),
+        (
+            (b"library/a", 2, (3, 2), &[1], &[2]),
+            Some(Refusal::MissingChild { digest: digest(2) }),
+        ),
+        ((b"library/a", 2, (2, 3), &[1], &[]), over(10, 3)),
+        ((b"library/a", 2, (3, 2), &[1], &[]), None),
+    ];
+    for (manifest, want) in &seals {
+        assert_eq!(rt; seal_refused(&mut keeper, alloc, manifest)?, *want);
+    }
+    assert_eq!(rt; keeper.upload(2)?.is_none(), true);
+    Ok(())
+}
+
+// A pull of what isn't there makes no entry.
 #[test]
 fn a_manifest_is_refused_in_order_and_then_put(rt: HostRuntime) -> Result<(), Fail> {
     let alloc = rt.alloc();
     let mut keeper = opened(alloc, &[])?;
-    let name: &[u8] = b"library/a";
-    let steps = [
-        (begin(alloc, name)?, None),
+    let ask = settle(alloc, b"library/a", 2, 1)?;
+    assert_eq!(rt; refusal_of(&mut keeper, alloc, ask)?, None);
+    let ask = pull(alloc, 3)?;
+    assert_eq!(rt; refusal_of(&mut keeper, alloc, ask)?, None);
+    assert_eq!(rt; keeper.rows().entries().len(), 2);
+    let puts: [(Manifest, Option<Refusal>); 6] = [
+        ((b"other/a", 2, (3, 2), &[1], &[]), Some(Refusal::NoProject)),
         (
-            Ask::SealManifest {
-                upload: 2,
-                put: put(alloc, b"library/b", 3, 2, &[], &[])?,
-            },
-            Some(Refusal::UploadUnknown),
-        ),
-        (
-            Ask::SealManifest {
-                upload: 2,
-                put: put(alloc, name, 3, 2, &[1], &[])?,
-            },
-            Some(Refusal::MissingRef { digest: digest(1) }),
-        ),
-        (settle(alloc, name, 2, 1)?, None),
-        (
-            Ask::SealManifest {
-                upload: 2,
-                put: put(alloc, name, 3, 2, &[1], &[2])?,
-            },
-            Some(Refusal::MissingChild { digest: digest(2) }),
-        ),
-        (
-            Ask::SealManifest {
-                upload: 2,
-                put: put(alloc, name, 2, 3, &[1], &[])?,
-            },
-            over(10, 3),
-        ),
-        (
-            Ask::SealManifest {
-                upload: 2,
-                put: put(alloc, name, 3, 2, &[1], &[])?,
-            },
-            None,
-        ),
-        (
-            Ask::PutArtifact {
-                upload: 2,
-                put: put(alloc, b"other/a", 3, 2, &[1], &[])?,
-            },
-            Some(Refusal::NoProject),
-        ),
-        (
-            Ask::PutArtifact {
-                upload: 3,
-                put: put(alloc, name, 3, 2, &[1], &[])?,
-            },
+            (b"library/a", 3, (3, 2), &[1], &[]),
             Some(Refusal::NotPlaced),
         ),
         (
-            Ask::PutArtifact {
-                upload: 2,
-                put: put(alloc, name, 3, 2, &[1, 9], &[])?,
-            },
+            (b"library/a", 2, (3, 2), &[1, 9], &[]),
             Some(Refusal::MissingRef { digest: digest(9) }),
         ),
         (
-            Ask::PutArtifact {
-                upload: 2,
-                put: put(alloc, name, 3, 2, &[1], &[8])?,
-            },
+            (b"library/a", 2, (3, 2), &[1], &[8]),
             Some(Refusal::MissingChild { digest: digest(8) }),
         ),
-        (
-            Ask::PutArtifact {
-                upload: 2,
-                put: put(alloc, name, 2, 3, &[1], &[])?,
-            },
-            over(10, 3),
-        ),
-        (pull(alloc, 3)?, None),
-        (
-            Ask::PutArtifact {
-                upload: 2,
-                put: put(alloc, name, 3, 2, &[1], &[])?,
-            },
-            None,
-        ),
-        (pull(alloc, 3)?, None),
+        ((b"library/a", 2, (2, 3), &[1], &[]), over(10, 3)),
+        ((b"library/a", 2, (3, 2), &[1], &[]), None),
     ];
-    for (ask, want) in &steps {
-        assert_eq!(rt; refusal_of(&mut keeper, alloc, ask)?, *want);
+    for (manifest, want) in &puts {
+        assert_eq!(rt; put_refused(&mut keeper, alloc, manifest)?, *want);
     }
-    assert_eq!(rt; shown(&mut keeper, alloc, b"library")?, Some((12, 12, 5)));
-    let name = Name::read(alloc, name)?;
-    let row = keeper.artifact(&name, &digest(3))?;
-    assert_eq!(rt;
-        row.map(|row| (row.size, row.pulled, row.version)),
-        Some((2, NOW, 6))
-    );
-    let row = keeper.tag(&name, &Tag::read(alloc, b"v1")?)?;
-    assert_eq!(rt;
-        row.map(|row| (row.digest, row.version)),
-        Some((digest(3), 5))
-    );
-    assert_eq!(rt; keeper.blob(&digest(1))?.map(|row| row.version), Some(5));
+    let ask = pull(alloc, 3)?;
+    assert_eq!(rt; refusal_of(&mut keeper, alloc, ask)?, None);
+    assert_eq!(rt; put_rows(&mut keeper, alloc)?, ((2, NOW, 4), (true, 3), 3));
+    assert_eq!(rt; shown(&mut keeper, alloc, b"library")?, Some((12, 12, 3)));
     Ok(())
 }
 
-// Six calls make the project and settle what the manifest refers to. The plan makes seven, and behind them
-// none fails.
+// The put that is refused where a call fails, after what it refers to was settled, and how many entries stand then.
+fn put_failing_at(alloc: Global, call: u64) -> Result<(Option<Refusal>, usize), Fail> {
+    let mut keeper = opened(alloc, &[call])?;
+    let content = settle(alloc, b"library/a", 2, 1)?;
+    if refusal_of(&mut keeper, alloc, content)?.is_some() {
+        return Err(Fail::new("not settled"));
+    }
+    let put = put(alloc, b"library/a", 3, 2, &[1], &[])?;
+    let ask = Ask::PutArtifact { upload: 2, put };
+    let refused = plan(alloc, &mut keeper, &placements(), &ask, 3, NOW).err();
+    Ok((refused, keeper.rows().entries().len()))
+}
+
+// Six calls make the project and settle what the manifest refers to. The plan makes seven, and behind them none fails.
 #[test]
 fn a_put_is_refused_where_the_keeper_fails(rt: HostRuntime) -> Result<(), Fail> {
-    let alloc = rt.alloc();
-    let ask = Ask::PutArtifact {
-        upload: 2,
-        put: put(alloc, b"library/a", 3, 2, &[1], &[])?,
-    };
-    for call in 0..8 {
-        let mut keeper = opened(alloc, &[7 + call])?;
-        let content = settle(alloc, b"library/a", 2, 1)?;
-        assert_eq!(rt; refusal_of(&mut keeper, alloc, &content)?, None);
-        let want = if call < 7 {
-            Some(Refusal::Keeper)
-        } else {
-            None
-        };
-        assert_eq!(rt;
-            plan(alloc, &mut keeper, &placements(), &ask, 3, NOW).err(),
-            want
-        );
-        assert_eq!(rt; keeper.rows().entries().len(), 2);
+    for call in 7..14 {
+        let ended = put_failing_at(rt.alloc(), call)?;
+        assert_eq!(rt; ended, (Some(Refusal::Keeper), 2));
     }
+    assert_eq!(rt; put_failing_at(rt.alloc(), 14)?, (None, 2));
     Ok(())
 }
