@@ -1,7 +1,0 @@
-mod BuiltAudits
-pub mod BuiltEntries
-mod Puts
-mod Findings
-pub mod ProjectVersions
-pub mod RowAnswers
-mod SeenRows
