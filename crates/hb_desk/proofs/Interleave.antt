@@ -6,7 +6,8 @@ use Rattle.hb_text.specs.declared.digests.Digest.{Digest}
 use Rattle.hb_records.specs.declared.entries.EntryKind.{EntryKind}
 use Rattle.hb_records.specs.declared.notes.Sealed.{Sealed}
 use Rattle.hb_model.specs.History.{History, latest}
-use Rattle.hb_desk.specs.Alone.{alone_view, is_own, seal_of, with_seal, AloneKnows}
+use Rattle.hb_desk.specs.Alone.{alone_view, is_own, AloneKnows}
+use Rattle.hb_desk.specs.Noting.{seal_of, with_seal}
 use Rattle.hb_desk.specs.Calls.{Call, Asked, StagePlaced, Tells, Outcome, plain}
 use Rattle.hb_desk.specs.Clause.{View, EventOf, EventFrom, Between, MineGrows, Known, Fits, FitsAt, AllFit, Causes, Leaves, Seals, moves_seal}
 use Rattle.hb_desk.specs.Events.{Event, happens, after, entry_of, acknowledged}

@@ -4,8 +4,6 @@ use Rattle.std.specs.List.{list_any}
 use Rattle.hb_records.specs.declared.notes.Sealed.{Sealed}
 use Rattle.hb_desk.specs.Clause.{View}
 use Rattle.hb_desk.specs.Notes.{sealed_at}
-use Rattle.hb_desk.specs.declared.asks.Ask.{Ask}
-use Rattle.hb_desk.specs.declared.asks.Ask.TheVariants.{Seal, SealManifest}
 
 -- a desk, others that act on it, and what the caller did itself: the numbers of its entries, the last of them, and
 -- what it sealed and hasn't placed
@@ -34,16 +32,6 @@ alone_view v own last sealed = record {
   sole = false;
   spent = v.spent;
 }
-
--- what an ask seals where it is Ok
-abbrev pub seal_of : Ask → Option Sealed
-seal_of (Seal upload d size) = Some (record { upload = upload; digest = d; size = size })
-seal_of (SealManifest upload put) = Some (record { upload = upload; digest = put.digest; size = put.size })
-seal_of ask = None
-
-abbrev pub with_seal : Option Sealed → List Sealed → List Sealed
-with_seal None sealed = sealed
-with_seal (Some x) sealed = x ∷ sealed
 
 -- what is always known of such a caller: its last number is one of an entry, and what it sealed the desk has sealed
 pub record AloneKnows (v : View) (last : ℕ) (sealed : List Sealed) : Type 0 where

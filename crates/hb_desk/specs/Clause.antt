@@ -30,7 +30,7 @@ pub record View : Type 0 where
   pub sealed : List Sealed
   pub keeper_faults : ℕ
   pub store_faults : ℕ
-  -- the store tells its contents
+  -- what is stored is told
   pub told_bytes : Bool
   -- nobody else acts on what the desk holds
   pub sole : Bool

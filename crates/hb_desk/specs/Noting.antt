@@ -11,6 +11,16 @@ use Rattle.hb_desk.specs.State.{State}
 use Rattle.hb_desk.specs.declared.asks.Ask.{Ask}
 use Rattle.hb_desk.specs.declared.asks.Ask.TheVariants.{Seal, SealManifest, Settle, PutArtifact}
 
+-- what an ask seals where it is Ok
+abbrev pub seal_of : Ask → Option Sealed
+seal_of (Seal upload d size) = Some (record { upload = upload; digest = d; size = size })
+seal_of (SealManifest upload put) = Some (record { upload = upload; digest = put.digest; size = put.size })
+seal_of ask = None
+
+abbrev pub with_seal : Option Sealed → List Sealed → List Sealed
+with_seal None sealed = sealed
+with_seal (Some x) sealed = x ∷ sealed
+
 -- an Ok seals the upload
 abbrev pub sealing : Sealed → Outcome → Notes → Notes
 sealing x (Ok gave) n = record n { sealed = x ∷ n.sealed }

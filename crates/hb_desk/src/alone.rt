@@ -1,7 +1,8 @@
 ghost use Rattle.std.specs.Prelude.{◌≡◌, ◌≢◌, ◌≤◌, ◌<◌, ◌∷◌, ℕ, [], true, false, not, length, slice_set, IsSome, OnOk, OnErr};
 ghost use Rattle.hb_records.specs.declared.notes.Sealed.{Sealed as SealedUpload};
 ghost use Rattle.std.specs.Prelude.{List};
-ghost use Rattle.hb_desk.specs.Alone.{AloneParts, alone_view, seal_of as sealed_by, with_seal};
+ghost use Rattle.hb_desk.specs.Alone.{AloneParts, alone_view};
+ghost use Rattle.hb_desk.specs.Noting.{with_seal};
 ghost use Rattle.hb_desk.specs.Clause.{View, Between};
 ghost use Rattle.hb_desk.specs.Notes.{is_sealed, without_sealed};
 
@@ -9,6 +10,7 @@ use crate::asks::Ask;
 use crate::desk::Desk;
 use crate::gave::{Opened, Staged};
 use crate::refusals::Refusal;
+use crate::seals::seal_of;
 use crate::told::Told;
 use hb_records::{Memory, Sealed};
 use hb_text::{Digest, Name, Reference};
@@ -103,28 +105,6 @@ impl Seals {
         ensures { self.new ≡ without_sealed upload self.old }
     {
         self.sealed.retain(|seal| is_other(upload, seal));
-    }
-}
-
-fn seal_of(ask: &Ask) -> Option<Sealed>
-    ensures { result ≡ sealed_by ask.now }
-{
-    match ask {
-        Ask::Seal {
-            upload,
-            digest,
-            size,
-        } => Some(Sealed {
-            upload: *upload,
-            digest: *digest,
-            size: *size,
-        }),
-        Ask::SealManifest { upload, put } => Some(Sealed {
-            upload: *upload,
-            digest: put.digest,
-            size: put.size,
-        }),
-        _ => None,
     }
 }
 

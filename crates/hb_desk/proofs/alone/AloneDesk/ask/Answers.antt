@@ -1,6 +1,6 @@
 use Rattle.std.proofs.Common.{◌≡◌, ◌∷◌, ap, sym, subst, ◌∙◌, arith, rules}
 use Rattle.std.specs.Prelude.{slice_set}
-use Rattle.hb_desk.specs.Alone.{with_seal}
+use Rattle.hb_desk.specs.Noting.{with_seal}
 use Rattle.hb_desk.specs.Clause.{Seals}
 use Rattle.hb_desk.proofs.Interleave.{alone-ask, alone-memory, seals-asked, sealed-kept}
 use Rattle.hb_desk.proofs.alone.AloneDesk.ask.Goals as goal
