@@ -24,12 +24,12 @@ use Rattle.hb_records.specs.declared.notes.Spell.{Spell}
 use Rattle.hb_rows.specs.Tables.{Tables}
 use Rattle.hb_store.specs.Contents.{Contents, IsLapsing}
 use Rattle.hb_store.specs.declared.rows.Lapsing.{Lapsing}
-use Rattle.hb_model.specs.Words.{same_text, same_digest, some_and, last_kind}
+use Rattle.hb_model.specs.Words.{same_text, same_digest, some_and}
 use Rattle.hb_model.specs.Registry.{Registry, ArtifactItem, PairItem, StoredItem, pair_in, artifact_in, upload_in, stored_in, artifact_key, pair_key}
 use Rattle.hb_model.specs.Replay.{replay, step, size_of, artifacts_with}
 use Rattle.hb_model.specs.Moves.{stores, takes_digest, collects, touches, moves}
 use Rattle.hb_model.specs.Presence.{present, needed}
-use Rattle.hb_model.specs.History.{History, Legal, LegalKind, Stands}
+use Rattle.hb_model.specs.History.{History, Legal, LegalKind}
 use Rattle.hb_model.specs.Effects.{after_entry}
 use Rattle.hb_model.specs.Sound.{OneLength, HasLength}
 use Rattle.hb_model.specs.Whole.{IsWhole, IsKept, MayLapse, HaveLengths, is_last_move}
@@ -145,16 +145,16 @@ all-filter P test (x ∷ xs) h = either (test x) (all-filter P test xs h.1)
     either false rest = rest
 
 -- ---- what artifacts need
-abbrev needs : ArtifactItem → List Digest
+abbrev pub needs : ArtifactItem → List Digest
 needs x = x.digest ∷ x.refs
+
+abbrev pub needed_by : List ℕ → List ArtifactItem → List Digest
+needed_by p items = flat_map needs (filter (λ x. same_text p (project_of x.name)) items)
 
 module _ (P : Digest → Type 0) (p : List ℕ) where
   -- an artifact of the project needs only such digests
   abbrev IsFed : ArtifactItem → Type 0
   IsFed x = IsTrue (same_text p (project_of x.name)) → AllByRecursion P (needs x)
-
-  abbrev needed_by : List ArtifactItem → List Digest
-  needed_by items = flat_map needs (filter (λ x. same_text p (project_of x.name)) items)
 
   all-front : (xs ys : List Digest) → AllByRecursion P (xs ++ ys) → AllByRecursion P xs
   all-front [] ys h = tt
@@ -169,20 +169,20 @@ module _ (P : Digest → Type 0) (p : List ℕ) where
   all-joined (x ∷ xs) ys h k = (h.0, all-joined xs ys h.1 k)
 
   -- what all need, one by one
-  all-fed : (items : List ArtifactItem) → AllByRecursion P (needed_by items) → AllByRecursion IsFed items
+  all-fed : (items : List ArtifactItem) → AllByRecursion P (needed_by p items) → AllByRecursion IsFed items
   all-fed [] h = tt
   all-fed (x ∷ items) h = either (same_text p (project_of x.name)) refl h (all-fed items)
     where
-      either : (b : Bool) → same_text p (project_of x.name) ≡ b → AllByRecursion P (flat_map needs (cond b (x ∷ filter (λ x. same_text p (project_of x.name)) items) (filter (λ x. same_text p (project_of x.name)) items))) → (AllByRecursion P (needed_by items) → AllByRecursion IsFed items) → IsFed x × AllByRecursion IsFed items
-      either true of h rest = ((λ _. all-front (needs x) (needed_by items) h), rest (all-behind (needs x) (needed_by items) h))
+      either : (b : Bool) → same_text p (project_of x.name) ≡ b → AllByRecursion P (flat_map needs (cond b (x ∷ filter (λ x. same_text p (project_of x.name)) items) (filter (λ x. same_text p (project_of x.name)) items))) → (AllByRecursion P (needed_by p items) → AllByRecursion IsFed items) → IsFed x × AllByRecursion IsFed items
+      either true of h rest = ((λ _. all-front (needs x) (needed_by p items) h), rest (all-behind (needs x) (needed_by p items) h))
       either false other h rest = ((λ of. let clash : true ≡ false = sym of ∙ other in cc clash), rest h)
 
-  fed-all : (items : List ArtifactItem) → AllByRecursion IsFed items → AllByRecursion P (needed_by items)
+  fed-all : (items : List ArtifactItem) → AllByRecursion IsFed items → AllByRecursion P (needed_by p items)
   fed-all [] h = tt
   fed-all (x ∷ items) h = either (same_text p (project_of x.name)) refl (fed-all items h.1)
     where
-      either : (b : Bool) → same_text p (project_of x.name) ≡ b → AllByRecursion P (needed_by items) → AllByRecursion P (flat_map needs (cond b (x ∷ filter (λ x. same_text p (project_of x.name)) items) (filter (λ x. same_text p (project_of x.name)) items)))
-      either true of rest = all-joined (needs x) (needed_by items) (h.0 of) rest
+      either : (b : Bool) → same_text p (project_of x.name) ≡ b → AllByRecursion P (needed_by p items) → AllByRecursion P (flat_map needs (cond b (x ∷ filter (λ x. same_text p (project_of x.name)) items) (filter (λ x. same_text p (project_of x.name)) items)))
+      either true of rest = all-joined (needs x) (needed_by p items) (h.0 of) rest
       either false other rest = rest
 
 -- a row that is set, and rows that are changed
@@ -210,7 +210,7 @@ fed-put P p moment name digest size media refs children (Some x) items own h = a
 exact-text : (a b : List ℕ) → same_text a b ≡ true → a ≡ b
 exact-text a b e = text_cmp-order.ties a b (equal_from _ e)
 
-itself-pair : (p : List ℕ) (q : Digest) → same_pair p q p q ≡ true
+pub itself-pair : (p : List ℕ) (q : Digest) → same_pair p q p q ≡ true
 itself-pair p q = ap is_eq (tied_itself named_digest_cmp-order.total (p, q))
 
 -- a project has what its artifacts need

@@ -1,4 +1,5 @@
 pub mod Additions
+pub mod ArtifactSizes
 mod FoundRows
 pub mod IdleRows
 pub mod KeptWhole

@@ -1,5 +1,5 @@
 -- Entries by which a project gets a digest, and the notes that such an event leaves.
-use Rattle.std.specs.Prelude.{◌≡◌, ℕ, Bool, List}
+use Rattle.std.specs.Prelude.{◌≡◌, ℕ, Bool}
 use Rattle.std.specs.List.{filter}
 use Rattle.hb_text.specs.declared.digests.Digest.{Digest}
 use Rattle.hb_records.specs.declared.entries.EntryKind.{EntryKind}

@@ -8,7 +8,7 @@ ghost use Rattle.hb_records.specs.declared.notes.Notes.{Notes};
 ghost use Rattle.hb_rows.specs.Tables.{Tables};
 ghost use Rattle.hb_model.specs.Effects.{after_entry};
 ghost use Rattle.hb_model.specs.History.{History, Legal};
-ghost use Rattle.hb_model.specs.Registry.{PairItem, pair_in};
+ghost use Rattle.hb_model.specs.Registry.{ArtifactItem, PairItem, artifact_in, pair_in};
 ghost use Rattle.hb_model.specs.Replay.{replay, size_of};
 ghost use Rattle.hb_model.specs.Sound.{HasLength, IsSound, OneLength};
 ghost use Rattle.hb_model.specs.Whole.{IsKept, IsWhole};
@@ -18,6 +18,12 @@ ghost use Rattle.hb_history.specs.Associating.{Associates, FewerPlacements};
 pub fn sizes_of_pairs_are_those_stored()
     ensures { (j : List AuditEntry) → History j → (p : List ℕ) (d : Digest) (x : PairItem)
         → pair_in (replay j) p d ≡ Some x → size_of j d ≡ Some x.size }
+{}
+
+/// An artifact counts with the size that is stored under its digest.
+pub fn sizes_of_artifacts_are_those_stored()
+    ensures { (j : List AuditEntry) → History j → (name : List ℕ) (d : Digest) (x : ArtifactItem)
+        → artifact_in (replay j) name d ≡ Some x → size_of j d ≡ Some x.size }
 {}
 
 /// What every event keeps makes the promise: clients see a registry whose content is held.

@@ -6,8 +6,8 @@ use crate::presence::{
     what_a_project_has_is_present,
 };
 use crate::soundness::{
-    content_that_is_held_may_be_associated, sizes_of_pairs_are_those_stored,
-    whole_registries_are_sound,
+    content_that_is_held_may_be_associated, sizes_of_artifacts_are_those_stored,
+    sizes_of_pairs_are_those_stored, whole_registries_are_sound,
 };
 use crate::usage::{additions_stay_within_the_limit, what_is_used_is_the_recount};
 use crate::versions::versions_never_come_back;
@@ -25,6 +25,7 @@ fn laws(_rt: HostRuntime) -> Result<(), Fail> {
     versions_never_come_back();
     what_is_named_has_its_grace();
     sizes_of_pairs_are_those_stored();
+    sizes_of_artifacts_are_those_stored();
     whole_registries_are_sound();
     content_that_is_held_may_be_associated();
     Ok(())
