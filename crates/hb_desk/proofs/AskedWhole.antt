@@ -197,7 +197,7 @@ gone-none : (n : ℕ) (kind : EntryKind) → ((d : Digest) → takes_digest d ki
 gone-none n kind untaken uncollected [] = refl
 gone-none n kind untaken uncollected (x ∷ placements) = λ i. cond (untaken x.digest i || uncollected x.digest i) (record x { gone = n }) x ∷ gone-none n kind untaken uncollected placements i
 
-gone-same : (n : ℕ) (kind : EntryKind) (notes : Notes) → ((d : Digest) → takes_digest d kind ≡ false) → ((d : Digest) → collects d kind ≡ false) → gone_by n (Some kind) notes ≡ notes
+pub gone-same : (n : ℕ) (kind : EntryKind) (notes : Notes) → ((d : Digest) → takes_digest d kind ≡ false) → ((d : Digest) → collects d kind ≡ false) → gone_by n (Some kind) notes ≡ notes
 gone-same n kind notes untaken uncollected = ap (λ placements. record notes { placements = placements }) (gone-none n kind untaken uncollected notes.placements)
 
 -- an upload that has ended may be sealed

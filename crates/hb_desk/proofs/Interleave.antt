@@ -1,5 +1,5 @@
 -- An event of a caller before which others acted.
-use Rattle.std.proofs.Common.{◌≡◌, ◌≢◌, ◌||◌, ℕ, suc, ◌≤◌, ◌<◌, Bool, true, false, not, cond, List, [], ◌∷◌, ◌++◌, length, Option, Some, None, Result, Ok, Err, IfSome, is_some, is_err, nat_eq, refl, ap, subst, sym, ◌∙◌, inr, arith}
+use Rattle.std.proofs.Common.{◌≡◌, ◌≢◌, ◌||◌, ℕ, suc, ◌≤◌, ◌<◌, Bool, true, false, not, cond, List, [], ◌∷◌, ◌++◌, length, Option, Some, None, Result, Ok, Err, IfSome, is_some, is_err, nat_eq, refl, ap, subst, sym, ◌∙◌, inl, inr, arith}
 use Rattle.std.proofs.lemmas.Bool.Decides.{nat_tests}
 use Rattle.hb_outside.specs.Causes.{Rose}
 use Rattle.hb_text.specs.declared.digests.Digest.{Digest}
@@ -291,3 +291,30 @@ knows-asked old mid new now last last' ask result sealed knows between causes se
 pub sealed-kept : (ask : Ask) (result : Result Told Refusal) (seal : Option Sealed) (slot new sealed : List Sealed) (refused : Bool) → seal ≡ seal_of ask → slot ≡ with_seal seal sealed → refused ≡ is_err result → (refused ≡ false → new ≡ slot) → (refused ≡ true → (older : List Sealed) → slot ≡ with_seal seal older → new ≡ older) → new ≡ sealed_after ask result sealed
 sealed-kept ask (Ok told) seal slot new sealed refused is slot_is refused_is kept undone = kept refused_is ∙ slot_is ∙ ap (λ x. with_seal x sealed) is
 sealed-kept ask (Err refusal) seal slot new sealed refused is slot_is refused_is kept undone = undone refused_is sealed slot_is
+
+-- ---- what others do
+-- one event of theirs that moves no seal
+pub one-between : (old new : View) (now : ℕ) (call : Call) (outcome : Outcome) → ((u : ℕ) → moves_seal u call outcome ≡ false) → (old.state ≡ None → new.state ≡ None) → old.spent ≡ false → new.spent ≡ false → EventOf old new call outcome → Causes old new now call outcome → Between old new
+one-between old new now call outcome unmoved untold before seat event causes = record {
+  events = go old.state event;
+  untold = untold;
+  keeper_later = causes.keeper_later;
+  store_later = causes.store_later;
+  entries = causes.entries;
+  room = causes.room;
+  moment = causes.rises;
+  sole = causes.sole;
+  told_bytes = causes.told_bytes;
+  spent = seat ∙ sym before;
+  sealed = λ u x h. causes.sealed u x (unmoved u) h;
+}
+  where
+    here : Event
+    here = record { call = call; moment = new.moment; outcome = outcome }
+
+    go : (state : Option State) → IfSome state (λ s. EventFrom s old new call outcome) → IfSome state (λ s. (es : List Event) × AllFit es s × (new.state ≡ Some (after es s)))
+    go None e = tt
+    go (Some s) e = elim e.leaves [
+      | inl made ↦ (here ∷ e.others, (record { answered = subst (λ seat. Fits seat here (after e.others s)) seat e.answered; later = e.later }, e.fits), made)
+      | inr unmade ↦ (e.others, e.fits, unmade.1)
+    ]

@@ -2,3 +2,4 @@ pub mod AskedWhole
 pub mod Histories
 pub mod Interleave
 pub mod LegalReplies
+pub mod Stepping

@@ -1,5 +1,5 @@
 -- What contracts see of a caller that isn't alone.
-use Rattle.std.specs.Prelude.{◌≡◌, ◌≤◌, ℕ, Bool, false, List, Option, Some, None, ◌∷◌, nat_eq}
+use Rattle.std.specs.Prelude.{◌≡◌, ◌≤◌, ℕ, Bool, false, List, Some, nat_eq}
 use Rattle.std.specs.List.{list_any}
 use Rattle.hb_records.specs.declared.notes.Sealed.{Sealed}
 use Rattle.hb_desk.specs.Clause.{View}

@@ -2,11 +2,13 @@ pub mod Alone
 pub mod Calls
 pub mod Clause
 pub mod Events
-pub mod Notes
 pub mod Keeping
+pub mod Notes
 pub mod Noting
+pub mod Points
 pub mod Prefix
 pub mod ProjectVersions
 pub mod Refusing
 pub mod Reply
 pub mod State
+pub mod AskedPoints

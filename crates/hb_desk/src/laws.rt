@@ -1,9 +1,9 @@
 //! What holds of replies and of events, whatever desk answers. Each function does nothing: its contract is the law.
-ghost use Rattle.std.specs.Prelude.{◌≡◌, ◌≤◌, ℕ, suc, List, length, Some};
+ghost use Rattle.std.specs.Prelude.{◌≡◌, ◌≤◌, ℕ, suc, false, List, length, None, Some};
 ghost use Rattle.hb_records.specs.declared.entries.EntryKind.{EntryKind};
 ghost use Rattle.hb_model.specs.History.{History, Legal, latest};
-ghost use Rattle.hb_desk.specs.Calls.{Call};
-ghost use Rattle.hb_desk.specs.Clause.{AllFit};
+ghost use Rattle.hb_desk.specs.Calls.{Call, Outcome};
+ghost use Rattle.hb_desk.specs.Clause.{AllFit, Between, Causes, EventOf, View, moves_seal};
 ghost use Rattle.hb_desk.specs.Events.{Event, after};
 ghost use Rattle.hb_desk.specs.Keeping.{AsksKeepWhole};
 ghost use Rattle.hb_desk.specs.Prefix.{GoesOn};
@@ -31,4 +31,11 @@ pub fn what_was_seen_stays()
 /// An ask that is answered by its reply or by a fault leaves rows, notes and store that fit one another.
 pub fn asks_keep_the_registry_whole()
     ensures { AsksKeepWhole }
+{}
+
+/// One event of theirs that seals nothing and places nothing is what others may do between two events of a caller.
+pub fn one_event_is_what_others_may_do()
+    ensures { (old new : View) (now : ℕ) (call : Call) (outcome : Outcome) → ((u : ℕ) → moves_seal u call outcome ≡ false)
+        → (old.state ≡ None → new.state ≡ None) → old.spent ≡ false → new.spent ≡ false
+        → EventOf old new call outcome → Causes old new now call outcome → Between old new }
 {}

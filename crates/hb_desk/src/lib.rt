@@ -2,22 +2,28 @@
 #![tactic(auto)]
 
 mod alone;
+mod answers;
 mod asks;
 mod desk;
 mod gave;
 mod laws;
+mod ops;
 mod refusals;
 mod seals;
+#[cfg(test)]
+mod tests;
 mod told;
 
 pub use alone::{Alone, Others};
+pub use answers::{Answer, DetailItem, DetailList, DetailValue};
 pub use asks::Ask;
 pub use desk::Desk;
 pub use gave::{Opened, Staged};
 pub use laws::{
-    asks_keep_the_registry_whole, events_keep_a_history, what_is_replied_is_legal,
-    what_was_seen_stays,
+    asks_keep_the_registry_whole, events_keep_a_history, one_event_is_what_others_may_do,
+    what_is_replied_is_legal, what_was_seen_stays,
 };
+pub use ops::{Op, Progress};
 pub use refusals::Refusal;
 pub use seals::seal_of;
 pub use told::Told;

@@ -1,0 +1,67 @@
+-- The points of an operation's events: where each stood, and what it was. The newest stands first.
+use Rattle.std.specs.Prelude.{◌≡◌, ◌≤◌, ℕ, List, ◌∷◌, Option, Some, None, Err, IfSome}
+use Rattle.hb_outside.specs.Causes.{Rose}
+use Rattle.hb_desk.specs.Calls.{Call, Outcome}
+use Rattle.hb_desk.specs.Clause.{View, EventFrom}
+use Rattle.hb_desk.specs.Events.{Event, after}
+use Rattle.hb_desk.specs.State.{State}
+use Rattle.hb_desk.specs.declared.refusals.Refusal.{Refusal}
+use Rattle.hb_desk.specs.declared.refusals.Refusal.TheVariants.{Keeper, Storage}
+
+pub record Point : Type 0 where
+  -- what the event stood at
+  pub state : State
+  pub event : Event
+  -- the two counts of faults, before and after it
+  pub keeper_before : ℕ
+  pub keeper_after : ℕ
+  pub store_before : ℕ
+  pub store_after : ℕ
+  -- the refusal of a call on the stage or the reader that it gave
+  pub fault : Option Refusal
+
+-- what the operation goes by: that refusal, and else what the event answered
+abbrev pub outcome_of : Outcome → Option Refusal → Outcome
+outcome_of outcome None = outcome
+outcome_of outcome (Some refusal) = Err refusal
+
+abbrev pub outcome_at : Point → Outcome
+outcome_at p = outcome_of p.event.outcome p.fault
+
+-- a device's fault is answered only where its count rose at this point
+pub record IsCaused (p : Point) : Type 0 where
+  pub keeper : p.event.outcome ≡ Err Keeper → Rose p.keeper_before p.keeper_after
+  pub storage : p.event.outcome ≡ Err Storage → Rose p.store_before p.store_after
+
+-- the point of an event between two views of a desk
+abbrev pub point_of : View → View → State → Call → Outcome → Option Refusal → Point
+point_of old new state call outcome fault = record {
+  state = state;
+  event = record { call = call; moment = new.moment; outcome = outcome };
+  keeper_before = old.keeper_faults;
+  keeper_after = new.keeper_faults;
+  store_before = old.store_faults;
+  store_after = new.store_faults;
+  fault = fault;
+}
+
+-- One event of a desk, which adds its point to those of an operation.
+pub record Stepped {O : Type 0} (before : State) (old new : View) (went went' : O → List Point → Type 0) : Type 0 where
+  pub call : Call
+  pub outcome : Outcome
+  pub fault : Option Refusal
+  pub event : EventFrom before old new call outcome
+  pub caused : IsCaused (point_of old new (after event.others before) call outcome fault)
+  pub goes : (begun : O) (points : List Point) → went begun points → went' begun (point_of old new (after event.others before) call outcome fault ∷ points)
+
+abbrev pub Steps : {O : Type 0} → View → View → (O → List Point → Type 0) → (O → List Point → Type 0) → Type 0
+Steps old new went went' = IfSome old.state (λ before. Stepped before old new went went')
+
+-- the numbers of a desk over an event, whatever it was
+pub record Moves (old new : View) : Type 0 where
+  pub keeper_later : old.keeper_faults ≤ new.keeper_faults
+  pub store_later : old.store_faults ≤ new.store_faults
+  pub entries : old.entries ≤ new.entries
+  pub rises : old.moment ≤ new.moment
+  pub sole : new.sole ≡ old.sole
+  pub told_bytes : new.told_bytes ≡ old.told_bytes
