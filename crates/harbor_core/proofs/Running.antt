@@ -18,9 +18,11 @@ use Rattle.harbor_core.proofs.Talking.{Stands-same, KeepsPushed-none}
 
 -- devices at rest stay so, whatever a talk leaves of the store
 pub at-rest-after : (rows : Option Tables) (old new : Option Contents) → IsAtRest rows old → Stands old new → IsAtRest rows new
-at-rest-after None old new rest stands = tt
-at-rest-after (Some t) None new rest stands = subst (IsAtRest (Some t)) (sym stands) tt
-at-rest-after (Some t) (Some c) None rest stands = tt
+at-rest-after None None new rest stands = subst (IsAtRest None) (sym stands) tt
+at-rest-after None (Some c) None rest stands = absurd stands
+at-rest-after None (Some c) (Some c') rest stands = λ d. stands.true_still d (rest d)
+at-rest-after (Some t) None new rest stands = subst (IsAtRest (Some t)) (sym stands) rest
+at-rest-after (Some t) (Some c) None rest stands = absurd stands
 at-rest-after (Some t) (Some c) (Some c') rest stands = stands.whole_still t no_notes (latest t.audit) rest
 
 -- a world doesn't start on rows that don't fit

@@ -1,6 +1,10 @@
+pub mod AskCommits
+pub mod AskEvents
+pub mod Opened
 pub mod Opening
-pub mod Standing
 pub mod ReadPages
 pub mod ReadTables
+pub mod Standing
 pub mod StartSteps
+pub mod StoreEvents
 pub mod StoreSteps

@@ -1,5 +1,5 @@
 -- What the calls of a store leave of what it holds.
-use Rattle.std.proofs.Common.{◌≡◌, ℕ, Bool, true, false, cond, List, [], ◌∷◌, length, Option, Some, None, Result, Ok, Err, IfSome, IsSome, refl, sym, ap, subst, ◌∙◌, fold, arith}
+use Rattle.std.proofs.Common.{◌≡◌, ℕ, Bool, true, false, cond, List, [], ◌∷◌, length, Option, Some, None, Result, Ok, Err, IfSome, IsSome, IsSomeAnd, refl, sym, ap, subst, ◌∙◌, fold, arith}
 use Rattle.std.specs.List.{AllByRecursion}
 use Rattle.std.specs.Ordering.{is_eq}
 use Rattle.hb_text.specs.Digests.{digest_of}
@@ -162,3 +162,15 @@ Stands-trans None b c x y = subst (λ b. Stands b c) x y
 Stands-trans (Some a) None c x y = absurd x
 Stands-trans (Some a) (Some b) None x y = y
 Stands-trans (Some a) (Some b) (Some c) x y = StillHolds-trans a b c x y
+
+-- the same of a stage whose bytes have the digest, and more that holds of them
+pub Stands-given : {T : Type 0} (P : List ℕ → Type 0) (old : Option Contents) (now id : ℕ) (told : Option (List ℕ)) (d : Digest) (result : Result T StoreFault) (new : Option Contents) → ((bytes : List ℕ) → P bytes → digest_of bytes ≡ d) → IfSome old (λ c. IsSomeAnd told P) → Becomes old now (Placing id told d result) new → Stands old new
+Stands-given P None now id told d result new own given becomes = becomes
+Stands-given P (Some c) now id None d result new own given becomes = absurd given
+Stands-given P (Some c) now id (Some bytes) d result new own given becomes = Stands-placing (Some c) now id (Some bytes) d bytes result new (own bytes given) refl becomes
+
+pub Holds-given : {T : Type 0} (P : List ℕ → Type 0) (old : Option Contents) (now id : ℕ) (told : Option (List ℕ)) (d : Digest) (x : T) (new : Option Contents) → IfSome old (λ c. IsSomeAnd told P) → Becomes old now (Placing id told d (Ok x)) new → IfSome new (λ c. IsSomeAnd (bytes_of c d) P)
+Holds-given P None now id told d x new given becomes = subst (λ new. IfSome new (λ c. IsSomeAnd (bytes_of c d) P)) (sym becomes) tt
+Holds-given P (Some c) now id None d x new given becomes = absurd given
+Holds-given P (Some c) now id (Some bytes) d x None given becomes = tt
+Holds-given P (Some c) now id (Some bytes) d x (Some c') given becomes = subst (λ held. IsSomeAnd held P) (sym (Holds-placed (Some c) now id (Some bytes) d bytes x (Some c') refl becomes)) given

@@ -38,7 +38,7 @@ Contains-first x xs = Contains-append_left (x ∷ []) xs x (Contains-push [] x)
 Contains-passed : {A : Type 0} (p : A → Bool) (xs : List A) (x : A) → Contains (filter p xs) x → Contains xs x
 Contains-passed p xs x h = All-contains (Contains xs) (filter p xs) x (All-filter p (Contains xs) xs (All-contains_itself xs)) h
 
-All-passed : {A : Type 0} (P : A → Type 0) (p : A → Bool) (xs : List A) → AllByRecursion P xs → AllByRecursion P (filter p xs)
+pub All-passed : {A : Type 0} (P : A → Type 0) (p : A → Bool) (xs : List A) → AllByRecursion P xs → AllByRecursion P (filter p xs)
 All-passed P p xs h = recursion_from_All P (filter p xs) (All-filter p P xs (All-from_recursion P xs h))
 
 All-with_row : {A : Type 0} (P : A → Type 0) (order : A → A → Ordering) (row : A) (rows : List A) → P row → AllByRecursion P rows → AllByRecursion P (with_row_by order row rows)
@@ -170,7 +170,7 @@ Follows-counting c d bytes = record {
 }
 
 -- what holds of each row holds of what is found
-found_bytes : (P : Digest → List ℕ → Type 0) (d : Digest) (rows : List HeldBlob) (bytes : List ℕ) → AllByRecursion (λ x. P x.digest x.bytes) rows → held_in d rows ≡ Some bytes → P d bytes
+pub found_bytes : (P : Digest → List ℕ → Type 0) (d : Digest) (rows : List HeldBlob) (bytes : List ℕ) → AllByRecursion (λ x. P x.digest x.bytes) rows → held_in d rows ≡ Some bytes → P d bytes
 found_bytes P d [] bytes h e = cc
 found_bytes P d (x ∷ rows) bytes h e =
     elim (is_eq (digest_cmp d x.digest)) as (λ b. is_eq (digest_cmp d x.digest) ≡ b → option_map (λ row. row.bytes) (cond b (Some x) (row_at digest_cmp held_key d rows)) ≡ Some bytes → P d bytes) [

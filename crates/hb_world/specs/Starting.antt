@@ -8,18 +8,21 @@ use Rattle.hb_rows.specs.Tables.{Tables}
 use Rattle.hb_store.specs.Contents.{Contents}
 use Rattle.hb_model.specs.Effects.{after_entry}
 use Rattle.hb_model.specs.Fit.{Tells}
-use Rattle.hb_model.specs.History.{latest}
+use Rattle.hb_model.specs.History.{Stands, latest}
 use Rattle.hb_model.specs.LegalProjects.{library}
 use Rattle.hb_model.specs.Whole.{IsWhole, no_notes}
 use Rattle.hb_model.specs.declared.misfits.Misfit.{Misfit}
+use Rattle.hb_world.specs.Worlds.{IsTrueStore}
 use Rattle.hb_world.specs.declared.world.StartFault.{StartFault}
 use Rattle.hb_world.specs.declared.world.StartFault.TheVariants as variant
 
--- devices at rest: where rows and contents are told they are whole, with nothing remembered
+-- devices at rest: rows that are told stand, each content that is told has its digest, and where both are told they are
+-- whole, with nothing remembered
 abbrev pub IsAtRest : Option Tables → Option Contents → Type 0
 IsAtRest (Some t) (Some c) = IsWhole t no_notes c (latest t.audit)
-IsAtRest (Some t) None = Unit {0}
-IsAtRest None contents = Unit {0}
+IsAtRest (Some t) None = Stands t
+IsAtRest None (Some c) = IsTrueStore c
+IsAtRest None None = Unit {0}
 
 -- rows that are told and don't fit
 abbrev pub IsMisfit : Option Tables → Type 0
@@ -54,15 +57,3 @@ pub record Refused (before : Option Tables) (faults : ℕ) (fault : StartFault) 
   pub later : faults ≤ faults'
   pub misfit : (m : Misfit) → fault ≡ variant.Misfit m → IfSome before (λ t. Tells t (Some m))
   pub failed : fault ≡ variant.Failed → Rose faults faults'
-
--- what contracts see of a world
-pub record WorldParts (K S : Type 0) : Type 0 where
-  pub keeper : K
-  pub store : S
-  pub moment : ℕ
-
--- what a world always knows of its devices
-abbrev pub IsWorld : Option Tables → Option Contents → ℕ → Type 0
-IsWorld (Some t) (Some c) moment = IsWhole t no_notes c moment
-IsWorld (Some t) None moment = Unit {0}
-IsWorld None contents moment = Unit {0}

@@ -1,16 +1,26 @@
 //! The registry's state machine, over a keeper of rows and a store of contents.
 //!
 //! - [`World`]: its state. [`World::start`] reads the rows, refuses those that don't fit their audit, and gives rows
-//!   without an audit their first entry; [`World::close`] hands the devices back. It has no events yet.
-//! - [`first`]: its first form, which a talk uses. It knows which blobs were pushed to which project, and nothing else yet:
+//!   without an audit their first entry; [`World::close`] hands the devices back. It is a desk (`hb_desk`): each call
+//!   of it is one event, after which rows, notes and store fit one another (`specs/Worlds`).
+//! - [`first`]: its first form, which a talk uses. It knows which blobs were pushed to which project, and nothing else:
 //!   [`first::World::push_whole`] stores a blob and remembers it, and [`first::World::open_blob`] opens
 //!   one that was pushed.
 //!
 //! It never waits and keeps nothing but what it is told.
 #![tactic(auto)]
 
+mod asking;
+#[cfg(test)]
+mod desk_tests;
+mod events;
 pub mod first;
+mod looking;
+mod opens;
 mod reading;
+mod refusing;
+mod remembered;
+mod staging;
 #[cfg(test)]
 mod start_tests;
 mod starting;

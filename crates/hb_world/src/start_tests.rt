@@ -6,6 +6,7 @@ ghost use Rattle.hb_world.specs.Starting.{CanStart};
 
 use crate::reading::read_rows;
 use crate::{StartFault, World, empty_devices_are_at_rest};
+use hb_desk::Desk;
 use hb_keeper::MemKeeper;
 use hb_model::changes::{Stamp, project_made, upload_begun};
 use hb_model::{Misfit, fit};

@@ -1,5 +1,5 @@
 //! The rows of a keeper, made ready for a world.
-ghost use Rattle.std.specs.Prelude.{◌≡◌, ◌≤◌, [], Some, None, IfOk, IfErr, IfSome, OnErr, IsErrOf};
+ghost use Rattle.std.specs.Prelude.{◌≡◌, ◌≤◌, ◌^◌, [], length, Some, None, IfOk, IfErr, IfSome, OnErr, IsErrOf};
 ghost use Rattle.std.specs.Option.{option_map};
 ghost use Rattle.hb_keeper.specs.Keeps.{KeepCause};
 ghost use Rattle.hb_outside.specs.Causes.{Rose};
@@ -17,7 +17,7 @@ use crate::world::StartFault;
 use hb_keeper::{KeepFault, Keeper};
 use hb_model::changes::{Stamp, project_made};
 use hb_model::fit;
-use hb_records::{Batch, Duplicate, Entry, EntryKind, MAX_MOMENT, Memory};
+use hb_records::{Batch, Duplicate, Entry, EntryKind, MAX_ENTRIES, MAX_MOMENT, Memory};
 use hb_rows::Rows;
 use hb_text::{NameFault, ProjectName};
 use std::alloc::Global;
@@ -78,19 +78,50 @@ fn fitting_rows<K: Keeper>(alloc: Global, keeper: &mut K) -> Result<Rows, StartF
     }
 }
 
-/// Makes the rows of a keeper ready for a world, and gives the moment at which it starts.
-pub(crate) fn ready<K: Keeper>(alloc: Global, keeper: &mut K, now: u64) -> Result<u64, StartFault>
-    ensures started { IfOk result (λ moment. Started (K.rows keeper.old) now (K.rows keeper.new) moment) }
+/// How many entries the audit has, and the moment at which a world starts.
+#[derive(Clone, Copy)]
+pub(crate) struct Beginning {
+    pub(crate) entries: u64,
+    pub(crate) moment: u64,
+}
+
+// How many entries there are, where an audit may have so many.
+fn count_entries(rows: &Rows) -> Result<u64, Memory>
+    ensures { IfOk result (λ n. (n ≡ length rows.now.audit) × (n ≤ 2 ^ 62)) }
+{
+    let entries = rows.entries().len() as u64;
+    if entries > MAX_ENTRIES {
+        return Err(Memory);
+    }
+    Ok(entries)
+}
+
+/// Makes the rows of a keeper ready for a world.
+pub(crate) fn ready<K: Keeper>(
+    alloc: Global,
+    keeper: &mut K,
+    now: u64,
+) -> Result<Beginning, StartFault>
+    ensures started { IfOk result (λ made. Started (K.rows keeper.old) now (K.rows keeper.new) made.moment) }
+    ensures count { IfOk result (λ made. IfSome (K.rows keeper.new) (λ t. made.entries ≡ length t.audit)) }
+    ensures room { IfOk result (λ made. (made.entries ≤ 2 ^ 62) × (made.moment ≤ LAST_MOMENT)) }
     ensures later { IfOk result (λ _. K.faults keeper.old ≤ K.faults keeper.new) }
     ensures refused { IfErr result (λ fault. Refused (K.rows keeper.old) (K.faults keeper.old) fault (K.rows keeper.new) (K.faults keeper.new)) }
 {
     let rows = fitting_rows(alloc, keeper)?;
+    let entries = count_entries(&rows)?;
     let now = now.min(MAX_MOMENT);
     match rows.entries().last() {
-        Some(entry) => Ok(now.max(entry.moment)),
+        Some(entry) => Ok(Beginning {
+            entries,
+            moment: now.max(entry.moment),
+        }),
         None => {
             begin(alloc, keeper, now)?;
-            Ok(now)
+            Ok(Beginning {
+                entries: 1,
+                moment: now,
+            })
         }
     }
 }

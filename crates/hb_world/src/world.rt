@@ -3,9 +3,11 @@ ghost use Rattle.std.specs.Prelude.{◌≡◌, ◌≤◌, Some, IfOk, IfErr};
 ghost use Rattle.hb_keeper.specs.declared.keeper.KeepFault.TheVariants as keep;
 ghost use Rattle.hb_rows.specs.Tables.{empty_tables};
 ghost use Rattle.hb_store.specs.MemStores.{empty_contents};
+ghost use Rattle.hb_model.specs.Whole.{no_notes};
 ghost use Rattle.hb_world.specs.Starting.{CanStart, IsAtRest, Refused, Started};
 ghost use Rattle.hb_world.specs.declared.world.StartFault.TheVariants.{Failed, Memory};
 
+use crate::remembered::Remembered;
 use crate::starting::ready;
 use hb_keeper::{KeepFault, Keeper};
 use hb_model::Misfit;
@@ -66,25 +68,34 @@ pub struct StartRefused<K, S> {
     pub store: S,
 }
 
-/// The state of a registry: a keeper of its rows, a store of its contents, and the greatest moment so far.
+/// The state of a registry: a keeper of its rows, a store of its contents, what is remembered of uploads, how
+/// many entries its audit has, and the greatest moment so far.
 ///
-/// Where the devices tell rows and contents, these fit one another.
+/// Where the devices tell rows and contents, these and what is remembered fit one another, at every event. It
+/// is a [`hb_desk::Desk`], whose events nobody else shares, and never waits.
 #[derive(Drop)]
 pub struct World<K: Keeper, S: Store> {
-    alloc: Global,
-    keeper: K,
-    store: S,
-    moment: u64,
+    pub(crate) alloc: Global,
+    pub(crate) keeper: K,
+    pub(crate) store: S,
+    pub(crate) notes: Remembered,
+    // how many entries the audit has
+    pub(crate) entries: u64,
+    pub(crate) moment: u64,
+    // how many entries it had at the start
+    pub(crate) start: u64,
+    // the number of the last entry since, or 0
+    pub(crate) last: u64,
 }
 
 impl<K: Keeper, S: Store> Model for World<K, S> {
-    ghost use Rattle.hb_world.specs.Starting.{IsWorld, WorldParts};
+    ghost use Rattle.hb_world.specs.Worlds.{IsWorld, WorldParts};
 
     ghost Value = { WorldParts K S };
 
-    ghost view = { λ w. record { keeper = w.keeper; store = w.store; moment = w.moment } };
+    ghost view = { λ w. record { keeper = w.keeper; store = w.store; notes = w.notes; entries = w.entries; moment = w.moment; start = w.start; last = w.last } };
 
-    ghost invariant = { λ w. IsWorld (K.rows w.keeper) (S.contents w.store) w.moment };
+    ghost invariant = { λ w. IsWorld (record { rows = K.rows w.keeper; contents = S.contents w.store; keeper_faults = K.faults w.keeper; store_faults = S.faults w.store; notes = w.notes; entries = w.entries; moment = w.moment; start = w.start; last = w.last }) };
 }
 
 /// A keeper without a row and a store without content are at rest. It does nothing, and its contract is this
@@ -98,7 +109,7 @@ impl<K: Keeper, S: Store> World<K, S> {
     /// project `library`; others stay as they are. The moment is the clock's, `now`, unless the rows' latest
     /// is later, and never past [`hb_records::MAX_MOMENT`]. No call of the store is made.
     ///
-    /// Where it is refused, the rows are as before.
+    /// Where it is refused, the rows are as before. Memory comes also where the audit has more than 2^62 entries.
     pub fn start(
         alloc: Global,
         keeper: K,
@@ -107,6 +118,7 @@ impl<K: Keeper, S: Store> World<K, S> {
     ) -> Result<World<K, S>, StartRefused<K, S>>
         requires can { CanStart (K.rows keeper) (S.contents store) }
         ensures started { IfOk result (λ w. Started (K.rows keeper) now (K.rows w.keeper) w.moment) }
+        ensures fresh { IfOk result (λ w. (w.notes ≡ no_notes) × (w.start ≡ w.entries) × (w.last ≡ 0)) }
         ensures later { IfOk result (λ w. K.faults keeper ≤ K.faults w.keeper) }
         ensures store { IfOk result (λ w. w.store ≡ store) }
         ensures refused { IfErr result (λ r. Refused (K.rows keeper) (K.faults keeper) r.fault (K.rows r.keeper) (K.faults r.keeper)) }
@@ -114,11 +126,15 @@ impl<K: Keeper, S: Store> World<K, S> {
     {
         let mut keeper = keeper;
         match ready(alloc, &mut keeper, now) {
-            Ok(moment) => Ok(World {
+            Ok(from) => Ok(World {
                 alloc,
                 keeper,
                 store,
-                moment,
+                notes: Remembered::new(alloc),
+                entries: from.entries,
+                moment: from.moment,
+                start: from.entries,
+                last: 0,
             }),
             Err(fault) => Err(StartRefused {
                 fault,
@@ -126,13 +142,6 @@ impl<K: Keeper, S: Store> World<K, S> {
                 store,
             }),
         }
-    }
-
-    /// The greatest moment so far, in seconds since 1970.
-    pub fn moment(&self) -> u64
-        ensures { result ≡ self.now.moment }
-    {
-        self.moment
     }
 
     /// The devices, on which a world starts again.
@@ -145,7 +154,11 @@ impl<K: Keeper, S: Store> World<K, S> {
             alloc: _,
             keeper,
             store,
+            notes: _,
+            entries: _,
             moment: _,
+            start: _,
+            last: _,
         } = self;
         (keeper, store)
     }

@@ -1,0 +1,9 @@
+use Rattle.std.proofs.Common.{rules}
+use Rattle.hb_world.proofs.Standing.{Stands-staging}
+use Rattle.hb_world.proofs.staging.take_stage.Goals as goal
+
+pub returns-in-Ok-clause-stands : goal.returns-in-Ok-clause-stands
+returns-in-Ok-clause-stands g c = let h = c.in-Ok.ensures.contents in search (rules, Stands-staging)
+
+pub returns-in-Err-clause-stands : goal.returns-in-Err-clause-stands
+returns-in-Err-clause-stands g c = let h = c.in-Err.ensures.contents in search (rules, Stands-staging)
