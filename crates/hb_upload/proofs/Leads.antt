@@ -1,0 +1,154 @@
+-- What an event makes of a push, and what its points decide.
+use Rattle.std.proofs.Common.{◌≡◌, ℕ, Bool, true, false, cond, List, [], ◌∷◌, ◌++◌, length, Option, Some, None, Ok, Err, IfSome, IsSomeAnd, is_some, refl, sym, ap, subst, ◌∙◌, arith}
+use Rattle.hb_text.specs.Digests.{digest_of}
+use Rattle.hb_text.specs.declared.digests.Digest.{Digest}
+use Rattle.hb_store.specs.Bytes.{Appends}
+use Rattle.hb_model.specs.Words.{same_digest}
+use Rattle.hb_history.proofs.Settled.{exact-digest}
+use Rattle.hb_desk.specs.Calls.{Call, Gave, Tells, StageAt, Outcome}
+use Rattle.hb_desk.specs.Clause.{Causes, EventFrom, EventOf, View}
+use Rattle.hb_desk.specs.Events.{after}
+use Rattle.hb_desk.specs.Points.{Point, Stepped, point_of}
+use Rattle.hb_desk.specs.State.{State}
+use Rattle.hb_desk.specs.declared.told.Told.TheVariants as told
+use Rattle.hb_desk.specs.declared.refusals.Refusal.{Refusal}
+use Rattle.hb_upload.specs.Deciding.{decided, earlier, first_stop, or_pushed, refused_by, stops_at, unless_right}
+use Rattle.hb_upload.specs.Phases.{CalledAt, OneEvent, PhaseFits, place_at}
+use Rattle.hb_upload.specs.Places.{Blob, CallAt, Calls, Place, Beginning, Staging, Sealing, Placing, Settling, Ending, Dropping, Stopped, next, place_of, staged}
+use Rattle.hb_upload.specs.Pushes.{PushParts, Went}
+use Rattle.hb_upload.specs.declared.phase.Phase.{Phase}
+use Rattle.hb_upload.specs.declared.phase.Phase.TheVariants as phase
+use Rattle.hb_upload.specs.declared.phase.Stop.{Stop}
+use Rattle.hb_upload.specs.declared.phase.Stop.TheVariants.{Pushed, WrongDigest, Refused}
+
+-- ---- one event
+pub one-event : {T : Type 0} (b : Blob) (old new : View) (now : ℕ) (made call : Call) (outcome : Outcome) (fault : Option Refusal) (at : Place) (p : Phase T) → made ≡ call → EventOf old new made outcome → Causes old new now made outcome → place_at p ≡ next b at outcome fault → IfSome old.state (λ s. OneEvent b s old new call at p)
+one-event {T = T} b old new now made call outcome fault at p is event causes leads = go old.state (subst (λ call. EventOf old new call outcome) is event)
+  where
+    go : (state : Option State) → IfSome state (λ s. EventFrom s old new call outcome) → IfSome state (λ s. OneEvent {T = T} b s old new call at p)
+    go None e = tt
+    go (Some s) e = record { outcome = outcome; fault = fault; event = e; caused = record { keeper = causes.keeper; storage = causes.storage }; leads = leads }
+
+-- the points of a push go on
+went-on : {T : Type 0} (begun push after : PushParts T) (p : Point) (points : List Point) → after.blob ≡ push.blob → CallAt push.blob (place_at push.phase) p.event.call → place_at after.phase ≡ next push.blob (place_at push.phase) p.event.outcome p.fault → Went begun push points → Went begun after (p ∷ points)
+went-on begun push after p points same called leads went = record {
+  same = same ∙ went.same;
+  calls = subst (λ b. CallAt b (place_of b points) p.event.call × Calls b points) (sym same) (subst (λ at. CallAt push.blob at p.event.call) went.at called, went.calls);
+  at = leads ∙ ap (λ at. next push.blob at p.event.outcome p.fault) went.at ∙ ap (λ b. next b (place_of b points) p.event.outcome p.fault) (sym same);
+}
+
+pub stepped : {T : Type 0} (state : Option State) (old new : View) (push after : PushParts T) → after.blob ≡ push.blob → IfSome state (λ s. CalledAt push.blob s old new (place_at push.phase) after.phase) → IfSome state (λ s. Stepped s old new (λ begun points. Went begun push points) (λ begun points. Went begun after points))
+stepped None old new push after same called = tt
+stepped (Some s) old new push after same called = record {
+  call = called.call;
+  outcome = called.one.outcome;
+  fault = called.one.fault;
+  event = called.one.event;
+  caused = called.one.caused;
+  goes = λ begun points went. went-on begun push after (point_of old new _ called.call called.one.outcome called.one.fault) points same called.called called.one.leads went;
+}
+
+-- ---- what the points decide
+abbrev some_stop : Stop → Option Stop
+some_stop Pushed = None
+some_stop stop = Some stop
+
+-- what was decided so far
+abbrev stop_in : Place → Option Stop
+stop_in (Ending upload held stop) = some_stop stop
+stop_in (Dropping upload stop) = some_stop stop
+stop_in (Stopped stop) = some_stop stop
+stop_in at = None
+
+earlier-none : (stop : Option Stop) → earlier stop None ≡ stop
+earlier-none None = refl
+earlier-none (Some stop) = refl
+
+right-stop : (b : Blob) (upload : ℕ) → stop_in (staged b upload) ≡ unless_right b None
+right-stop b upload = elim (same_digest (digest_of b.bytes) b.digest) as (λ r. stop_in (cond r (Sealing upload) (Ending upload true (WrongDigest (digest_of b.bytes)))) ≡ cond r None (Some (WrongDigest (digest_of b.bytes)))) [ true ↦ refl | false ↦ refl ]
+
+begun-stop : (b : Blob) (gave : Gave) → stop_in (next b Beginning (Ok gave) None) ≡ None
+begun-stop b (Tells (told.Begun upload)) = refl
+begun-stop b (Tells _) = refl
+begun-stop b _ = refl
+
+begin-stop : (b : Blob) (outcome : Outcome) (fault : Option Refusal) → stop_in (next b Beginning outcome fault) ≡ refused_by outcome fault
+begin-stop b (Err refusal) fault = refl
+begin-stop b (Ok gave) (Some refusal) = refl
+begin-stop b (Ok gave) None = begun-stop b gave
+
+stage-stop : (b : Blob) (upload : ℕ) (outcome : Outcome) (fault : Option Refusal) → stop_in (next b (Staging upload) outcome fault) ≡ unless_right b (refused_by outcome fault)
+stage-stop b upload (Err refusal) fault = refl
+stage-stop b upload (Ok gave) (Some refusal) = refl
+stage-stop b upload (Ok gave) None = right-stop b upload
+
+end-stop : (b : Blob) (upload : ℕ) (held : Bool) (stop : Stop) (outcome : Outcome) (fault : Option Refusal) → stop_in (next b (Ending upload held stop) outcome fault) ≡ some_stop stop
+end-stop b upload true stop outcome fault = refl
+end-stop b upload false stop outcome fault = refl
+
+next-stop : (b : Blob) (at : Place) (call : Call) (outcome : Outcome) (fault : Option Refusal) → CallAt b at call → stop_in (next b at outcome fault) ≡ earlier (stop_in at) (stops_at b call outcome fault)
+next-stop b Beginning call outcome fault is = begin-stop b outcome fault ∙ ap (λ call. stops_at b call outcome fault) (sym is)
+next-stop b (Staging u) call outcome fault is = stage-stop b u outcome fault ∙ ap (λ call. stops_at b call outcome fault) (sym is)
+next-stop b (Sealing u) call (Ok gave) fault is = ap (λ call. stops_at b call (Ok gave) fault) (sym is)
+next-stop b (Sealing u) call (Err refusal) fault is = ap (λ call. stops_at b call (Err refusal) fault) (sym is)
+next-stop b (Placing u) call (Ok gave) fault is = ap (λ call. stops_at b call (Ok gave) fault) (sym is)
+next-stop b (Placing u) call (Err refusal) fault is = ap (λ call. stops_at b call (Err refusal) fault) (sym is)
+next-stop b (Settling u) call (Ok gave) fault is = ap (λ call. stops_at b call (Ok gave) fault) (sym is)
+next-stop b (Settling u) call (Err refusal) fault is = ap (λ call. stops_at b call (Err refusal) fault) (sym is)
+next-stop b (Ending u held stop) call outcome fault is = end-stop b u held stop outcome fault ∙ sym (earlier-none (some_stop stop)) ∙ ap (λ call. earlier (some_stop stop) (stops_at b call outcome fault)) (sym is)
+next-stop b (Dropping u stop) call outcome fault is = sym (earlier-none (some_stop stop)) ∙ ap (λ call. earlier (some_stop stop) (stops_at b call outcome fault)) (sym is)
+next-stop b (Stopped stop) call outcome fault is = absurd is
+
+points-stop : (b : Blob) (points : List Point) → Calls b points → stop_in (place_of b points) ≡ first_stop b points
+points-stop b [] calls = refl
+points-stop b (p ∷ points) calls = next-stop b (place_of b points) p.event.call p.event.outcome p.fault calls.0 ∙ ap (λ stop. earlier stop (stops_at b p.event.call p.event.outcome p.fault)) (points-stop b points calls.1)
+
+pushed-or : (stop : Stop) → or_pushed (some_stop stop) ≡ stop
+pushed-or Pushed = refl
+pushed-or (WrongDigest found) = refl
+pushed-or (Refused refusal) = refl
+
+-- how a push ended is what its points decide
+pub ended-decided : {T : Type 0} (begun push : PushParts T) (stop : Stop) (points : List Point) → push.phase ≡ phase.Ended stop → Went begun push points → stop ≡ decided push.blob points
+ended-decided {T = T} begun push stop points is went =
+    sym (pushed-or stop) ∙ ap or_pushed (sym (ap (λ (p : Phase T). stop_in (place_at p)) is) ∙ ap stop_in went.at ∙ points-stop push.blob points went.calls)
+
+-- ---- a stage that has the bytes
+appended : (old new : Option (List ℕ)) (piece : List ℕ) (offset : ℕ) → offset ≡ 0 → IsSomeAnd old (λ x. length x ≡ offset) → Appends {T = Unit {0}} old new piece (Ok tt) → new ≡ Some piece
+appended None new piece offset none there appends = absurd there
+appended (Some x) new piece offset none there appends = appends ∙ ap (λ x. Some (x ++ piece)) (empty x (there ∙ none))
+  where
+    empty : (x : List ℕ) → length x ≡ 0 → x ≡ []
+    empty [] is = refl
+    empty (a ∷ x) is = absurd (omega (arith, is))
+
+module _ {T : Type 0} (b : Blob) (upload : ℕ) (stage : T) (found : Digest) (p : Phase T) (found_is : found ≡ digest_of b.bytes) (right : same_digest found b.digest ≡ true → p ≡ phase.Seal upload stage) (wrong : same_digest found b.digest ≡ false → p ≡ phase.End upload (Some stage) (WrongDigest found)) where
+  pub staged-leads : (offset : ℕ) → place_at p ≡ next b (Staging upload) (Ok (StageAt offset)) None
+  staged-leads offset =
+      elim (same_digest found b.digest) as (λ r. same_digest found b.digest ≡ r → place_at p ≡ staged b upload) [
+        | true ↦ λ e. ap (λ p. place_at p) (right e) ∙ ap (λ r. cond r (Sealing upload) (Ending upload true (WrongDigest (digest_of b.bytes)))) (sym (ap (λ d. same_digest d b.digest) (sym found_is) ∙ e))
+        | false ↦ λ e. ap (λ p. place_at p) (wrong e) ∙ ap (λ d. Ending upload true (WrongDigest d)) found_is ∙ ap (λ r. cond r (Sealing upload) (Ending upload true (WrongDigest (digest_of b.bytes)))) (sym (ap (λ d. same_digest d b.digest) (sym found_is) ∙ e))
+      ] refl
+
+  pub staged-fits : (upload_of size_of : T → ℕ) (bytes_of : T → Option (List ℕ)) (v : View) → upload_of stage ≡ upload → size_of stage ≡ length b.bytes → (v.told_bytes ≡ true → bytes_of stage ≡ Some b.bytes) → PhaseFits upload_of size_of bytes_of b p v
+  staged-fits upload_of size_of bytes_of v own size told =
+      elim (same_digest found b.digest) as (λ r. same_digest found b.digest ≡ r → PhaseFits upload_of size_of bytes_of b p v) [
+        | true ↦ λ e. subst (λ p. PhaseFits upload_of size_of bytes_of b p v) (sym (right e)) (record {
+          upload = own;
+          size_is = size;
+          bytes = λ h. subst (λ x. IsSomeAnd x (λ x. (digest_of x ≡ b.digest) × (length x ≡ length b.bytes))) (sym (told h)) (sym found_is ∙ exact-digest found b.digest e, refl);
+        })
+        | false ↦ λ e. subst (λ p. PhaseFits upload_of size_of bytes_of b p v) (sym (wrong e)) own
+      ] refl
+
+pub blob-appended : (told : Bool) (old new : Option (List ℕ)) (piece : List ℕ) (offset : ℕ) → offset ≡ 0 → (told ≡ true → IsSomeAnd old (λ x. length x ≡ offset)) → Appends {T = Unit {0}} old new piece (Ok tt) → told ≡ true → new ≡ Some piece
+blob-appended told old new piece offset none there appends h = appended old new piece offset none (there h) appends
+
+-- ---- one event by the phase
+pub called : {T : Type 0} (b : Blob) (state : Option State) (old new : View) (call : Call) (at here : Place) (p : Phase T) → at ≡ here → CallAt b here call → IfSome state (λ s. OneEvent b s old new call here p) → IfSome state (λ s. CalledAt b s old new at p)
+called b None old new call at here p is made event = tt
+called b (Some s) old new call at here p is made event = record { call = call; called = subst (λ at. CallAt b at call) (sym is) made; one = subst (λ at. OneEvent b s old new call at p) (sym is) event }
+
+pub ending-at : {T : Type 0} (upload : ℕ) (stage : Option T) (stop : Stop) → place_at (phase.End upload stage stop) ≡ Ending upload (is_some stage) stop
+ending-at upload (Some stage) stop = refl
+ending-at upload None stop = refl

@@ -1,0 +1,46 @@
+-- What a push is answered, read from its points alone: the first refusal among the events that decide, or the digest
+-- that the bytes have in the place of the one announced; else it is pushed. The events that clean up decide nothing.
+use Rattle.std.specs.Prelude.{List, [], ◌∷◌, Option, Some, None, Ok, Err, if◌then◌else◌}
+use Rattle.hb_text.specs.Digests.{digest_of}
+use Rattle.hb_model.specs.Words.{same_digest}
+use Rattle.hb_desk.specs.Calls.{Call, Asked, StageTaken, StageDropped, Outcome}
+use Rattle.hb_desk.specs.Points.{Point}
+use Rattle.hb_desk.specs.declared.asks.Ask.TheVariants.{BeginUpload, EndUpload}
+use Rattle.hb_desk.specs.declared.refusals.Refusal.{Refusal}
+use Rattle.hb_upload.specs.Places.{Blob}
+use Rattle.hb_upload.specs.declared.phase.Stop.{Stop}
+use Rattle.hb_upload.specs.declared.phase.Stop.TheVariants.{Pushed, WrongDigest, Refused}
+
+-- the refusal of an event, or of a call on what it gave
+abbrev pub refused_by : Outcome → Option Refusal → Option Stop
+refused_by (Err refusal) fault = Some (Refused refusal)
+refused_by (Ok gave) (Some refusal) = Some (Refused refusal)
+refused_by (Ok gave) None = None
+
+-- behind the stage its bytes' digest decides
+abbrev pub unless_right : Blob → Option Stop → Option Stop
+unless_right b (Some stop) = Some stop
+unless_right b None = if same_digest (digest_of b.bytes) b.digest then None else Some (WrongDigest (digest_of b.bytes))
+
+abbrev pub stops_at : Blob → Call → Outcome → Option Refusal → Option Stop
+stops_at b (Asked (BeginUpload name)) outcome fault = refused_by outcome fault
+stops_at b (Asked (EndUpload job upload)) outcome fault = None
+stops_at b (StageTaken name upload start) outcome fault = unless_right b (refused_by outcome fault)
+stops_at b (StageDropped upload handed) outcome fault = None
+stops_at b call outcome fault = refused_by outcome None
+
+-- the older one decides
+abbrev pub earlier : Option Stop → Option Stop → Option Stop
+earlier (Some stop) later = Some stop
+earlier None later = later
+
+abbrev pub first_stop : Blob → List Point → Option Stop
+first_stop b [] = None
+first_stop b (p ∷ points) = earlier (first_stop b points) (stops_at b p.event.call p.event.outcome p.fault)
+
+abbrev pub or_pushed : Option Stop → Stop
+or_pushed None = Pushed
+or_pushed (Some stop) = stop
+
+abbrev pub decided : Blob → List Point → Stop
+decided b points = or_pushed (first_stop b points)

@@ -1,0 +1,4 @@
+pub mod Places
+pub mod Deciding
+pub mod Phases
+pub mod Pushes

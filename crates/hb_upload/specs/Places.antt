@@ -1,0 +1,74 @@
+-- Where a push is, by its points, and which call it makes there.
+use Rattle.std.specs.Prelude.{◌≡◌, ℕ, Bool, true, false, List, [], ◌∷◌, length, Option, Some, None, Ok, Err, if◌then◌else◌}
+use Rattle.hb_text.specs.declared.digests.Digest.{Digest}
+use Rattle.hb_text.specs.Digests.{digest_of}
+use Rattle.hb_model.specs.Words.{same_digest}
+use Rattle.hb_desk.specs.Calls.{Call, Asked, StageTaken, StagePlaced, StageDropped, Outcome, Tells}
+use Rattle.hb_desk.specs.Points.{Point}
+use Rattle.hb_desk.specs.declared.asks.Ask.TheVariants.{BeginUpload, EndUpload, Seal, Settle}
+use Rattle.hb_desk.specs.declared.told.Told.TheVariants.{Begun}
+use Rattle.hb_desk.specs.declared.refusals.Refusal.{Refusal}
+use Rattle.hb_upload.specs.declared.phase.Stop.{Stop}
+use Rattle.hb_upload.specs.declared.phase.Stop.TheVariants.{Pushed, WrongDigest, Refused}
+
+-- what a push is given
+pub record Blob : Type 0 where
+  pub name : List ℕ
+  pub digest : Digest
+  pub bytes : List ℕ
+
+-- the upload is known from the first answer on
+pub data Place : Type 0 where
+  Beginning : Place
+  Staging : (upload : ℕ) → Place
+  Sealing : (upload : ℕ) → Place
+  Placing : (upload : ℕ) → Place
+  Settling : (upload : ℕ) → Place
+  -- the upload ends, with its stage held or without one
+  Ending : (upload : ℕ) → (held : Bool) → (stop : Stop) → Place
+  Dropping : (upload : ℕ) → (stop : Stop) → Place
+  Stopped : (stop : Stop) → Place
+
+-- what was staged is sealed where it has the digest that was announced
+abbrev pub staged : Blob → ℕ → Place
+staged b upload = if same_digest (digest_of b.bytes) b.digest then Sealing upload else Ending upload true (WrongDigest (digest_of b.bytes))
+
+-- Where it goes on, by what an event answered and by the refusal of a call on what the event gave.
+abbrev pub next : Blob → Place → Outcome → Option Refusal → Place
+next b Beginning (Err refusal) fault = Stopped (Refused refusal)
+next b Beginning (Ok gave) (Some refusal) = Stopped (Refused refusal)
+next b Beginning (Ok (Tells (Begun upload))) None = Staging upload
+next b Beginning (Ok gave) None = Beginning
+next b (Staging upload) (Err refusal) fault = Ending upload false (Refused refusal)
+next b (Staging upload) (Ok gave) (Some refusal) = Ending upload true (Refused refusal)
+next b (Staging upload) (Ok gave) None = staged b upload
+next b (Sealing upload) (Ok gave) fault = Placing upload
+next b (Sealing upload) (Err refusal) fault = Ending upload true (Refused refusal)
+next b (Placing upload) (Ok gave) fault = Settling upload
+next b (Placing upload) (Err refusal) fault = Stopped (Refused refusal)
+next b (Settling upload) (Ok gave) fault = Stopped Pushed
+next b (Settling upload) (Err refusal) fault = Stopped (Refused refusal)
+next b (Ending upload true stop) outcome fault = Dropping upload stop
+next b (Ending upload false stop) outcome fault = Stopped stop
+next b (Dropping upload stop) outcome fault = Stopped stop
+next b (Stopped stop) outcome fault = Stopped stop
+
+abbrev pub place_of : Blob → List Point → Place
+place_of b [] = Beginning
+place_of b (p ∷ points) = next b (place_of b points) p.event.outcome p.fault
+
+-- the call that a push makes there
+abbrev pub CallAt : Blob → Place → Call → Type 0
+CallAt b Beginning call = call ≡ Asked (BeginUpload b.name)
+CallAt b (Staging upload) call = call ≡ StageTaken b.name upload None
+CallAt b (Sealing upload) call = call ≡ Asked (Seal upload b.digest (length b.bytes))
+CallAt b (Placing upload) call = call ≡ StagePlaced upload b.digest
+CallAt b (Settling upload) call = call ≡ Asked (Settle b.name upload b.digest)
+CallAt b (Ending upload held stop) call = call ≡ Asked (EndUpload 0 upload)
+CallAt b (Dropping upload stop) call = call ≡ StageDropped upload true
+CallAt b (Stopped stop) call = ⊥
+
+-- each call is the one that a push makes there
+abbrev pub Calls : Blob → List Point → Type 0
+Calls b [] = Unit {0}
+Calls b (p ∷ points) = CallAt b (place_of b points) p.event.call × Calls b points

@@ -1,0 +1,221 @@
+//! The events of a push, one each.
+ghost use Rattle.std.specs.Prelude.{◌≡◌, ◌<◌, ℕ, true, false, length, Some, None, IfSome, IsSomeAnd, is_some};
+ghost use Rattle.hb_text.specs.Digests.{digest_of};
+ghost use Rattle.hb_model.specs.Words.{same_digest};
+ghost use Rattle.hb_desk.specs.Calls.{Asked, StageTaken, StagePlaced, StageDropped};
+ghost use Rattle.hb_desk.specs.Clause.{View};
+ghost use Rattle.hb_desk.specs.Notes.{sealed_at};
+ghost use Rattle.hb_desk.specs.Points.{Moves};
+ghost use Rattle.hb_desk.specs.declared.asks.Ask.TheVariants.{BeginUpload, EndUpload, Seal as SealAsked, Settle as SettleAsked};
+ghost use Rattle.hb_upload.specs.Phases.{GoesOn, HasBlob, OneEvent, PhaseFits, left_of};
+ghost use Rattle.hb_upload.specs.Places.{Blob, Beginning, Staging, Sealing, Placing, Settling, Ending, Dropping};
+ghost use Rattle.hb_upload.specs.Pushes.{blob_of};
+ghost use Rattle.hb_upload.specs.declared.phase.Phase.TheVariants as phase;
+ghost use Rattle.hb_upload.specs.declared.phase.Stop.{Stop as Stopping};
+ghost use Rattle.hb_upload.specs.declared.phase.Stop.TheVariants as stop;
+
+use crate::phase::{Given, Phase, Stop};
+use hb_desk::{Ask, Desk, Refusal, Staged, Told};
+use hb_store::{Stage, StoreFault};
+use hb_text::Digest;
+
+/// The upload begins.
+pub(crate) fn begin_step<D: Desk>(desk: &mut D, ask: &Ask, now: u64) -> Phase<D::Stage>
+    ensures event { (b : Blob) → ask.now ≡ BeginUpload b.name → IfSome (D.view desk.old).state (λ s. OneEvent b s (D.view desk.old) (D.view desk.new) (Asked (BeginUpload b.name)) Beginning result) }
+    ensures moves { Moves (D.view desk.old) (D.view desk.new) }
+    ensures fits { (b : Blob) → PhaseFits D.Stage.upload D.Stage.size D.Stage.bytes b result (D.view desk.new) }
+    ensures falls { left_of result < 7 }
+{
+    match desk.ask(ask, now) {
+        Ok(Told::Begun { upload }) => Phase::Stage { upload },
+        Ok(_) => Phase::Ended {
+            stop: Stop::Refused(Refusal::Memory),
+        },
+        Err(refusal) => Phase::Ended {
+            stop: Stop::Refused(refusal),
+        },
+    }
+}
+
+fn fault_of(fault: StoreFault) -> Refusal {
+    match fault {
+        StoreFault::Failed => Refusal::Storage,
+        StoreFault::Memory => Refusal::Memory,
+    }
+}
+
+// A stage that has all bytes is sealed where they have the digest that was announced.
+fn staged<T>(upload: u64, stage: T, digest: &Digest, found: &Digest) -> Phase<T>
+    ensures right { same_digest found.now digest.now ≡ true → result ≡ phase.Seal upload stage }
+    ensures wrong { same_digest found.now digest.now ≡ false → result ≡ phase.End upload (Some stage) (stop.WrongDigest found.now) }
+{
+    if found.cmp(digest).is_eq() {
+        Phase::Seal { upload, stage }
+    } else {
+        Phase::End {
+            upload,
+            stage: Some(stage),
+            stop: Stop::WrongDigest { found: *found },
+        }
+    }
+}
+
+// Appends the bytes to the stage. A call on the stage that is refused ends the push.
+fn filled<T: Stage>(taken: Staged<T>, given: &Given, upload: u64) -> Phase<T>
+    requires found { given.now.found ≡ digest_of given.now.bytes }
+    requires upload { T.upload taken.stage ≡ upload }
+    requires size { T.size taken.stage ≡ taken.offset }
+    ensures leads { GoesOn (blob_of given.now) upload taken.offset result }
+    ensures fits { (v : View) → (v.told_bytes ≡ true → IsSomeAnd (T.bytes taken.stage) (λ x. length x ≡ taken.offset)) → PhaseFits T.upload T.size T.bytes (blob_of given.now) result v }
+    ensures falls { left_of result < 6 }
+{
+    let mut stage = taken.stage;
+    if taken.offset != 0 {
+        return Phase::End {
+            upload,
+            stage: Some(stage),
+            stop: Stop::Refused(Refusal::Memory),
+        };
+    }
+    match stage.append(given.bytes.bytes()) {
+        Ok(()) => staged(upload, stage, &given.digest, &given.found),
+        Err(fault) => Phase::End {
+            upload,
+            stage: Some(stage),
+            stop: Stop::Refused(fault_of(fault)),
+        },
+    }
+}
+
+/// Takes the stage, which gets the bytes.
+pub(crate) fn stage_step<D: Desk>(
+    desk: &mut D,
+    given: &Given,
+    upload: u64,
+    now: u64,
+) -> Phase<D::Stage>
+    requires { given.now.found ≡ digest_of given.now.bytes }
+    ensures event { IfSome (D.view desk.old).state (λ s. OneEvent (blob_of given.now) s (D.view desk.old) (D.view desk.new) (StageTaken given.now.name upload None) (Staging upload) result) }
+    ensures moves { Moves (D.view desk.old) (D.view desk.new) }
+    ensures fits { PhaseFits D.Stage.upload D.Stage.size D.Stage.bytes (blob_of given.now) result (D.view desk.new) }
+    ensures falls { left_of result < 6 }
+{
+    match desk.stage(&given.name, upload, None, now) {
+        Ok(taken) => filled(taken, given, upload),
+        Err(refusal) => Phase::End {
+            upload,
+            stage: None,
+            stop: Stop::Refused(refusal),
+        },
+    }
+}
+
+/// Seals the upload.
+pub(crate) fn seal_step<D: Desk>(
+    desk: &mut D,
+    given: &Given,
+    upload: u64,
+    stage: D::Stage,
+    now: u64,
+) -> Phase<D::Stage>
+    requires { HasBlob D.Stage.upload D.Stage.size D.Stage.bytes (blob_of given.now) upload stage (D.view desk.old) }
+    ensures event { IfSome (D.view desk.old).state (λ s. OneEvent (blob_of given.now) s (D.view desk.old) (D.view desk.new) (Asked (SealAsked upload given.now.digest (length given.now.bytes))) (Sealing upload) result) }
+    ensures moves { Moves (D.view desk.old) (D.view desk.new) }
+    ensures fits { PhaseFits D.Stage.upload D.Stage.size D.Stage.bytes (blob_of given.now) result (D.view desk.new) }
+    ensures falls { left_of result < 5 }
+{
+    let ask = Ask::Seal {
+        upload,
+        digest: given.digest,
+        size: given.bytes.bytes().len() as u64,
+    };
+    match desk.ask(&ask, now) {
+        Ok(_) => Phase::Place { upload, stage },
+        Err(refusal) => Phase::End {
+            upload,
+            stage: Some(stage),
+            stop: Stop::Refused(refusal),
+        },
+    }
+}
+
+/// Places the stage.
+pub(crate) fn place_step<D: Desk>(
+    desk: &mut D,
+    given: &Given,
+    upload: u64,
+    stage: D::Stage,
+    now: u64,
+) -> Phase<D::Stage>
+    requires stage { HasBlob D.Stage.upload D.Stage.size D.Stage.bytes (blob_of given.now) upload stage (D.view desk.old) }
+    requires own { sealed_at upload (D.view desk.old).sealed ≡ Some (record { upload = upload; digest = given.now.digest; size = length given.now.bytes }) }
+    ensures event { IfSome (D.view desk.old).state (λ s. OneEvent (blob_of given.now) s (D.view desk.old) (D.view desk.new) (StagePlaced upload given.now.digest) (Placing upload) result) }
+    ensures moves { Moves (D.view desk.old) (D.view desk.new) }
+    ensures fits { PhaseFits D.Stage.upload D.Stage.size D.Stage.bytes (blob_of given.now) result (D.view desk.new) }
+    ensures falls { left_of result < 4 }
+{
+    match desk.place(upload, stage, &given.digest, now) {
+        Ok(_) => Phase::Settle { upload },
+        Err(refusal) => Phase::Ended {
+            stop: Stop::Refused(refusal),
+        },
+    }
+}
+
+/// The project gets what was placed.
+pub(crate) fn settle_step<D: Desk>(desk: &mut D, ask: &Ask, now: u64) -> Phase<D::Stage>
+    ensures event { (b : Blob) (upload : ℕ) → ask.now ≡ SettleAsked b.name upload b.digest → IfSome (D.view desk.old).state (λ s. OneEvent b s (D.view desk.old) (D.view desk.new) (Asked (SettleAsked b.name upload b.digest)) (Settling upload) result) }
+    ensures moves { Moves (D.view desk.old) (D.view desk.new) }
+    ensures fits { (b : Blob) → PhaseFits D.Stage.upload D.Stage.size D.Stage.bytes b result (D.view desk.new) }
+    ensures falls { left_of result < 3 }
+{
+    match desk.ask(ask, now) {
+        Ok(_) => Phase::Ended { stop: Stop::Pushed },
+        Err(refusal) => Phase::Ended {
+            stop: Stop::Refused(refusal),
+        },
+    }
+}
+
+/// The upload of a push that was refused ends.
+pub(crate) fn end_step<D: Desk>(
+    desk: &mut D,
+    upload: u64,
+    stage: Option<D::Stage>,
+    stop: Stop,
+    now: u64,
+) -> Phase<D::Stage>
+    requires { IfSome stage (λ s. D.Stage.upload s ≡ upload) }
+    ensures event { (b : Blob) → IfSome (D.view desk.old).state (λ s. OneEvent b s (D.view desk.old) (D.view desk.new) (Asked (EndUpload 0 upload)) (Ending upload (is_some stage) stop) result) }
+    ensures moves { Moves (D.view desk.old) (D.view desk.new) }
+    ensures fits { (b : Blob) → PhaseFits D.Stage.upload D.Stage.size D.Stage.bytes b result (D.view desk.new) }
+    ensures falls { left_of result < 2 }
+{
+    let _ended = desk.ask(&Ask::EndUpload { job: 0, upload }, now);
+    match stage {
+        Some(stage) => Phase::Drop {
+            upload,
+            stage,
+            stop,
+        },
+        None => Phase::Ended { stop },
+    }
+}
+
+/// Its stage is dropped.
+pub(crate) fn drop_step<D: Desk>(
+    desk: &mut D,
+    upload: u64,
+    stage: D::Stage,
+    stop: Stop,
+    now: u64,
+) -> Phase<D::Stage>
+    requires { D.Stage.upload stage ≡ upload }
+    ensures event { (b : Blob) → IfSome (D.view desk.old).state (λ s. OneEvent b s (D.view desk.old) (D.view desk.new) (StageDropped upload true) (Dropping upload stop) result) }
+    ensures moves { Moves (D.view desk.old) (D.view desk.new) }
+    ensures fits { (b : Blob) → PhaseFits D.Stage.upload D.Stage.size D.Stage.bytes b result (D.view desk.new) }
+    ensures falls { left_of result < 1 }
+{
+    let _dropped = desk.drop_stage(upload, stage, now);
+    Phase::Ended { stop }
+}
