@@ -5,24 +5,32 @@ use Rattle.hb_text.specs.declared.digests.Digest.{Digest}
 use Rattle.hb_store.specs.Bytes.{Appends}
 use Rattle.hb_model.specs.Words.{same_digest}
 use Rattle.hb_history.proofs.Settled.{exact-digest}
-use Rattle.hb_desk.specs.Calls.{Call, Gave, Tells, StageAt, Outcome}
-use Rattle.hb_desk.specs.Clause.{Causes, EventFrom, EventOf, View}
+use Rattle.hb_desk.specs.Calls.{Asked, Call, Gave, Tells, StageAt, Outcome}
+use Rattle.hb_desk.specs.Clause.{Causes, EventFrom, EventOf, Seals, View}
 use Rattle.hb_desk.specs.Events.{after}
 use Rattle.hb_desk.specs.Points.{Point, Stepped, point_of}
 use Rattle.hb_desk.specs.State.{State}
 use Rattle.hb_desk.specs.declared.told.Told.TheVariants as told
 use Rattle.hb_desk.specs.declared.refusals.Refusal.{Refusal}
+use Rattle.hb_records.specs.declared.notes.Sealed.{Sealed}
+use Rattle.hb_desk.specs.Notes.{sealed_at}
+use Rattle.hb_desk.specs.Noting.{seal_of}
+use Rattle.hb_desk.specs.declared.asks.Ask.{Ask}
+use Rattle.hb_desk.specs.declared.asks.Ask.TheVariants.{ShowProject, BeginUpload, EndUpload, Seal, SealManifest, Settle, PutArtifact, NotePull}
+use Rattle.hb_desk.specs.declared.told.Told.{Told}
 use Rattle.hb_upload.specs.Deciding.{decided, earlier, first_stop, or_pushed, refused_by, stops_at, unless_right}
 use Rattle.hb_upload.specs.Phases.{CalledAt, OneEvent, PhaseFits, place_at}
-use Rattle.hb_upload.specs.Places.{Blob, CallAt, Calls, Place, Beginning, Staging, Sealing, Placing, Settling, Ending, Dropping, Stopped, next, place_of, staged}
-use Rattle.hb_upload.specs.Pushes.{PushParts, Went}
+use Rattle.hb_upload.specs.Places.{Parcel, seal_by, seal_with, settle_by, settle_with, CallAt, Calls, Place, Beginning, Staging, Sealing, Placing, Settling, Ending, Dropping, Stopped, next, place_of, staged}
+use Rattle.hb_upload.specs.Pushes.{IsReady, PushParts, Went, of_upload, parcel_of, put_of}
+use Rattle.hb_upload.specs.declared.phase.Given.{Given}
+use Rattle.hb_records.specs.declared.puts.PutAsk.{PutAsk}
 use Rattle.hb_upload.specs.declared.phase.Phase.{Phase}
 use Rattle.hb_upload.specs.declared.phase.Phase.TheVariants as phase
 use Rattle.hb_upload.specs.declared.phase.Stop.{Stop}
 use Rattle.hb_upload.specs.declared.phase.Stop.TheVariants.{Pushed, WrongDigest, Refused}
 
 -- ---- one event
-pub one-event : {T : Type 0} (b : Blob) (old new : View) (now : ℕ) (made call : Call) (outcome : Outcome) (fault : Option Refusal) (at : Place) (p : Phase T) → made ≡ call → EventOf old new made outcome → Causes old new now made outcome → place_at p ≡ next b at outcome fault → IfSome old.state (λ s. OneEvent b s old new call at p)
+pub one-event : {T : Type 0} (b : Parcel) (old new : View) (now : ℕ) (made call : Call) (outcome : Outcome) (fault : Option Refusal) (at : Place) (p : Phase T) → made ≡ call → EventOf old new made outcome → Causes old new now made outcome → place_at p ≡ next b at outcome fault → IfSome old.state (λ s. OneEvent b s old new call at p)
 one-event {T = T} b old new now made call outcome fault at p is event causes leads = go old.state (subst (λ call. EventOf old new call outcome) is event)
   where
     go : (state : Option State) → IfSome state (λ s. EventFrom s old new call outcome) → IfSome state (λ s. OneEvent {T = T} b s old new call at p)
@@ -30,14 +38,14 @@ one-event {T = T} b old new now made call outcome fault at p is event causes lea
     go (Some s) e = record { outcome = outcome; fault = fault; event = e; caused = record { keeper = causes.keeper; storage = causes.storage }; leads = leads }
 
 -- the points of a push go on
-went-on : {T : Type 0} (begun push after : PushParts T) (p : Point) (points : List Point) → after.blob ≡ push.blob → CallAt push.blob (place_at push.phase) p.event.call → place_at after.phase ≡ next push.blob (place_at push.phase) p.event.outcome p.fault → Went begun push points → Went begun after (p ∷ points)
+went-on : {T : Type 0} (begun push after : PushParts T) (p : Point) (points : List Point) → after.parcel ≡ push.parcel → CallAt push.parcel (place_at push.phase) p.event.call → place_at after.phase ≡ next push.parcel (place_at push.phase) p.event.outcome p.fault → Went begun push points → Went begun after (p ∷ points)
 went-on begun push after p points same called leads went = record {
   same = same ∙ went.same;
-  calls = subst (λ b. CallAt b (place_of b points) p.event.call × Calls b points) (sym same) (subst (λ at. CallAt push.blob at p.event.call) went.at called, went.calls);
-  at = leads ∙ ap (λ at. next push.blob at p.event.outcome p.fault) went.at ∙ ap (λ b. next b (place_of b points) p.event.outcome p.fault) (sym same);
+  calls = subst (λ b. CallAt b (place_of b points) p.event.call × Calls b points) (sym same) (subst (λ at. CallAt push.parcel at p.event.call) went.at called, went.calls);
+  at = leads ∙ ap (λ at. next push.parcel at p.event.outcome p.fault) went.at ∙ ap (λ b. next b (place_of b points) p.event.outcome p.fault) (sym same);
 }
 
-pub stepped : {T : Type 0} (state : Option State) (old new : View) (push after : PushParts T) → after.blob ≡ push.blob → IfSome state (λ s. CalledAt push.blob s old new (place_at push.phase) after.phase) → IfSome state (λ s. Stepped s old new (λ begun points. Went begun push points) (λ begun points. Went begun after points))
+pub stepped : {T : Type 0} (state : Option State) (old new : View) (push after : PushParts T) → after.parcel ≡ push.parcel → IfSome state (λ s. CalledAt push.parcel s old new (place_at push.phase) after.phase) → IfSome state (λ s. Stepped s old new (λ begun points. Went begun push points) (λ begun points. Went begun after points))
 stepped None old new push after same called = tt
 stepped (Some s) old new push after same called = record {
   call = called.call;
@@ -64,42 +72,56 @@ earlier-none : (stop : Option Stop) → earlier stop None ≡ stop
 earlier-none None = refl
 earlier-none (Some stop) = refl
 
-right-stop : (b : Blob) (upload : ℕ) → stop_in (staged b upload) ≡ unless_right b None
+right-stop : (b : Parcel) (upload : ℕ) → stop_in (staged b upload) ≡ unless_right b None
 right-stop b upload = elim (same_digest (digest_of b.bytes) b.digest) as (λ r. stop_in (cond r (Sealing upload) (Ending upload true (WrongDigest (digest_of b.bytes)))) ≡ cond r None (Some (WrongDigest (digest_of b.bytes)))) [ true ↦ refl | false ↦ refl ]
 
-begun-stop : (b : Blob) (gave : Gave) → stop_in (next b Beginning (Ok gave) None) ≡ None
+begun-stop : (b : Parcel) (gave : Gave) → stop_in (next b Beginning (Ok gave) None) ≡ None
 begun-stop b (Tells (told.Begun upload)) = refl
 begun-stop b (Tells _) = refl
 begun-stop b _ = refl
 
-begin-stop : (b : Blob) (outcome : Outcome) (fault : Option Refusal) → stop_in (next b Beginning outcome fault) ≡ refused_by outcome fault
+begin-stop : (b : Parcel) (outcome : Outcome) (fault : Option Refusal) → stop_in (next b Beginning outcome fault) ≡ refused_by outcome fault
 begin-stop b (Err refusal) fault = refl
 begin-stop b (Ok gave) (Some refusal) = refl
 begin-stop b (Ok gave) None = begun-stop b gave
 
-stage-stop : (b : Blob) (upload : ℕ) (outcome : Outcome) (fault : Option Refusal) → stop_in (next b (Staging upload) outcome fault) ≡ unless_right b (refused_by outcome fault)
+stage-stop : (b : Parcel) (upload : ℕ) (outcome : Outcome) (fault : Option Refusal) → stop_in (next b (Staging upload) outcome fault) ≡ unless_right b (refused_by outcome fault)
 stage-stop b upload (Err refusal) fault = refl
 stage-stop b upload (Ok gave) (Some refusal) = refl
 stage-stop b upload (Ok gave) None = right-stop b upload
 
-end-stop : (b : Blob) (upload : ℕ) (held : Bool) (stop : Stop) (outcome : Outcome) (fault : Option Refusal) → stop_in (next b (Ending upload held stop) outcome fault) ≡ some_stop stop
+end-stop : (b : Parcel) (upload : ℕ) (held : Bool) (stop : Stop) (outcome : Outcome) (fault : Option Refusal) → stop_in (next b (Ending upload held stop) outcome fault) ≡ some_stop stop
 end-stop b upload true stop outcome fault = refl
 end-stop b upload false stop outcome fault = refl
 
-next-stop : (b : Blob) (at : Place) (call : Call) (outcome : Outcome) (fault : Option Refusal) → CallAt b at call → stop_in (next b at outcome fault) ≡ earlier (stop_in at) (stops_at b call outcome fault)
+seal-stops : (b : Parcel) (u : ℕ) (outcome : Outcome) (fault : Option Refusal) → stops_at b (Asked (seal_with u b)) outcome fault ≡ refused_by outcome None
+seal-stops b u outcome fault = go b.put
+  where
+    go : (put : Option PutAsk) → stops_at b (Asked (seal_by u b.digest (length b.bytes) put)) outcome fault ≡ refused_by outcome None
+    go None = refl
+    go (Some put) = refl
+
+settle-stops : (b : Parcel) (u : ℕ) (outcome : Outcome) (fault : Option Refusal) → stops_at b (Asked (settle_with u b)) outcome fault ≡ refused_by outcome None
+settle-stops b u outcome fault = go b.put
+  where
+    go : (put : Option PutAsk) → stops_at b (Asked (settle_by u b.name b.digest put)) outcome fault ≡ refused_by outcome None
+    go None = refl
+    go (Some put) = refl
+
+next-stop : (b : Parcel) (at : Place) (call : Call) (outcome : Outcome) (fault : Option Refusal) → CallAt b at call → stop_in (next b at outcome fault) ≡ earlier (stop_in at) (stops_at b call outcome fault)
 next-stop b Beginning call outcome fault is = begin-stop b outcome fault ∙ ap (λ call. stops_at b call outcome fault) (sym is)
 next-stop b (Staging u) call outcome fault is = stage-stop b u outcome fault ∙ ap (λ call. stops_at b call outcome fault) (sym is)
-next-stop b (Sealing u) call (Ok gave) fault is = ap (λ call. stops_at b call (Ok gave) fault) (sym is)
-next-stop b (Sealing u) call (Err refusal) fault is = ap (λ call. stops_at b call (Err refusal) fault) (sym is)
+next-stop b (Sealing u) call (Ok gave) fault is = sym (seal-stops b u (Ok gave) fault) ∙ ap (λ call. stops_at b call (Ok gave) fault) (sym is)
+next-stop b (Sealing u) call (Err refusal) fault is = sym (seal-stops b u (Err refusal) fault) ∙ ap (λ call. stops_at b call (Err refusal) fault) (sym is)
 next-stop b (Placing u) call (Ok gave) fault is = ap (λ call. stops_at b call (Ok gave) fault) (sym is)
 next-stop b (Placing u) call (Err refusal) fault is = ap (λ call. stops_at b call (Err refusal) fault) (sym is)
-next-stop b (Settling u) call (Ok gave) fault is = ap (λ call. stops_at b call (Ok gave) fault) (sym is)
-next-stop b (Settling u) call (Err refusal) fault is = ap (λ call. stops_at b call (Err refusal) fault) (sym is)
+next-stop b (Settling u) call (Ok gave) fault is = sym (settle-stops b u (Ok gave) fault) ∙ ap (λ call. stops_at b call (Ok gave) fault) (sym is)
+next-stop b (Settling u) call (Err refusal) fault is = sym (settle-stops b u (Err refusal) fault) ∙ ap (λ call. stops_at b call (Err refusal) fault) (sym is)
 next-stop b (Ending u held stop) call outcome fault is = end-stop b u held stop outcome fault ∙ sym (earlier-none (some_stop stop)) ∙ ap (λ call. earlier (some_stop stop) (stops_at b call outcome fault)) (sym is)
 next-stop b (Dropping u stop) call outcome fault is = sym (earlier-none (some_stop stop)) ∙ ap (λ call. earlier (some_stop stop) (stops_at b call outcome fault)) (sym is)
 next-stop b (Stopped stop) call outcome fault is = absurd is
 
-points-stop : (b : Blob) (points : List Point) → Calls b points → stop_in (place_of b points) ≡ first_stop b points
+points-stop : (b : Parcel) (points : List Point) → Calls b points → stop_in (place_of b points) ≡ first_stop b points
 points-stop b [] calls = refl
 points-stop b (p ∷ points) calls = next-stop b (place_of b points) p.event.call p.event.outcome p.fault calls.0 ∙ ap (λ stop. earlier stop (stops_at b p.event.call p.event.outcome p.fault)) (points-stop b points calls.1)
 
@@ -109,9 +131,9 @@ pushed-or (WrongDigest found) = refl
 pushed-or (Refused refusal) = refl
 
 -- how a push ended is what its points decide
-pub ended-decided : {T : Type 0} (begun push : PushParts T) (stop : Stop) (points : List Point) → push.phase ≡ phase.Ended stop → Went begun push points → stop ≡ decided push.blob points
+pub ended-decided : {T : Type 0} (begun push : PushParts T) (stop : Stop) (points : List Point) → push.phase ≡ phase.Ended stop → Went begun push points → stop ≡ decided push.parcel points
 ended-decided {T = T} begun push stop points is went =
-    sym (pushed-or stop) ∙ ap or_pushed (sym (ap (λ (p : Phase T). stop_in (place_at p)) is) ∙ ap stop_in went.at ∙ points-stop push.blob points went.calls)
+    sym (pushed-or stop) ∙ ap or_pushed (sym (ap (λ (p : Phase T). stop_in (place_at p)) is) ∙ ap stop_in went.at ∙ points-stop push.parcel points went.calls)
 
 -- ---- a stage that has the bytes
 appended : (old new : Option (List ℕ)) (piece : List ℕ) (offset : ℕ) → offset ≡ 0 → IsSomeAnd old (λ x. length x ≡ offset) → Appends {T = Unit {0}} old new piece (Ok tt) → new ≡ Some piece
@@ -122,7 +144,7 @@ appended (Some x) new piece offset none there appends = appends ∙ ap (λ x. So
     empty [] is = refl
     empty (a ∷ x) is = absurd (omega (arith, is))
 
-module _ {T : Type 0} (b : Blob) (upload : ℕ) (stage : T) (found : Digest) (p : Phase T) (found_is : found ≡ digest_of b.bytes) (right : same_digest found b.digest ≡ true → p ≡ phase.Seal upload stage) (wrong : same_digest found b.digest ≡ false → p ≡ phase.End upload (Some stage) (WrongDigest found)) where
+module _ {T : Type 0} (b : Parcel) (upload : ℕ) (stage : T) (found : Digest) (p : Phase T) (found_is : found ≡ digest_of b.bytes) (right : same_digest found b.digest ≡ true → p ≡ phase.Seal upload stage) (wrong : same_digest found b.digest ≡ false → p ≡ phase.End upload (Some stage) (WrongDigest found)) where
   pub staged-leads : (offset : ℕ) → place_at p ≡ next b (Staging upload) (Ok (StageAt offset)) None
   staged-leads offset =
       elim (same_digest found b.digest) as (λ r. same_digest found b.digest ≡ r → place_at p ≡ staged b upload) [
@@ -130,25 +152,82 @@ module _ {T : Type 0} (b : Blob) (upload : ℕ) (stage : T) (found : Digest) (p 
         | false ↦ λ e. ap (λ p. place_at p) (wrong e) ∙ ap (λ d. Ending upload true (WrongDigest d)) found_is ∙ ap (λ r. cond r (Sealing upload) (Ending upload true (WrongDigest (digest_of b.bytes)))) (sym (ap (λ d. same_digest d b.digest) (sym found_is) ∙ e))
       ] refl
 
-  pub staged-fits : (upload_of size_of : T → ℕ) (bytes_of : T → Option (List ℕ)) (v : View) → upload_of stage ≡ upload → size_of stage ≡ length b.bytes → (v.told_bytes ≡ true → bytes_of stage ≡ Some b.bytes) → PhaseFits upload_of size_of bytes_of b p v
+  pub staged-fits : (upload_of size_of : T → ℕ) (bytes_of : T → Option (List ℕ)) (v : View) → upload_of stage ≡ upload → size_of stage ≡ length b.bytes → (v.told_bytes ≡ true → bytes_of stage ≡ Some b.bytes) → PhaseFits upload_of size_of bytes_of b.digest b.bytes p v
   staged-fits upload_of size_of bytes_of v own size told =
-      elim (same_digest found b.digest) as (λ r. same_digest found b.digest ≡ r → PhaseFits upload_of size_of bytes_of b p v) [
-        | true ↦ λ e. subst (λ p. PhaseFits upload_of size_of bytes_of b p v) (sym (right e)) (record {
+      elim (same_digest found b.digest) as (λ r. same_digest found b.digest ≡ r → PhaseFits upload_of size_of bytes_of b.digest b.bytes p v) [
+        | true ↦ λ e. subst (λ p. PhaseFits upload_of size_of bytes_of b.digest b.bytes p v) (sym (right e)) (record {
           upload = own;
           size_is = size;
-          bytes = λ h. subst (λ x. IsSomeAnd x (λ x. (digest_of x ≡ b.digest) × (length x ≡ length b.bytes))) (sym (told h)) (sym found_is ∙ exact-digest found b.digest e, refl);
+          told = λ h. subst (λ x. IsSomeAnd x (λ x. (digest_of x ≡ b.digest) × (length x ≡ length b.bytes))) (sym (told h)) (sym found_is ∙ exact-digest found b.digest e, refl);
         })
-        | false ↦ λ e. subst (λ p. PhaseFits upload_of size_of bytes_of b p v) (sym (wrong e)) own
+        | false ↦ λ e. subst (λ p. PhaseFits upload_of size_of bytes_of b.digest b.bytes p v) (sym (wrong e)) own
       ] refl
 
-pub blob-appended : (told : Bool) (old new : Option (List ℕ)) (piece : List ℕ) (offset : ℕ) → offset ≡ 0 → (told ≡ true → IsSomeAnd old (λ x. length x ≡ offset)) → Appends {T = Unit {0}} old new piece (Ok tt) → told ≡ true → new ≡ Some piece
-blob-appended told old new piece offset none there appends h = appended old new piece offset none (there h) appends
+pub bytes-appended : (told : Bool) (old new : Option (List ℕ)) (piece : List ℕ) (offset : ℕ) → offset ≡ 0 → (told ≡ true → IsSomeAnd old (λ x. length x ≡ offset)) → Appends {T = Unit {0}} old new piece (Ok tt) → told ≡ true → new ≡ Some piece
+bytes-appended told old new piece offset none there appends h = appended old new piece offset none (there h) appends
 
 -- ---- one event by the phase
-pub called : {T : Type 0} (b : Blob) (state : Option State) (old new : View) (call : Call) (at here : Place) (p : Phase T) → at ≡ here → CallAt b here call → IfSome state (λ s. OneEvent b s old new call here p) → IfSome state (λ s. CalledAt b s old new at p)
+pub called : {T : Type 0} (b : Parcel) (state : Option State) (old new : View) (call : Call) (at here : Place) (p : Phase T) → at ≡ here → CallAt b here call → IfSome state (λ s. OneEvent b s old new call here p) → IfSome state (λ s. CalledAt b s old new at p)
 called b None old new call at here p is made event = tt
 called b (Some s) old new call at here p is made event = record { call = call; called = subst (λ at. CallAt b at call) (sym is) made; one = subst (λ at. OneEvent b s old new call at p) (sym is) event }
 
 pub ending-at : {T : Type 0} (upload : ℕ) (stage : Option T) (stop : Stop) → place_at (phase.End upload stage stop) ≡ Ending upload (is_some stage) stop
 ending-at upload (Some stage) stop = refl
 ending-at upload None stop = refl
+
+-- ---- asks of an upload
+of-twice : (u v : ℕ) (ask : Ask) → of_upload u (of_upload v ask) ≡ of_upload u ask
+of-twice u v (Seal named digest size) = refl
+of-twice u v (SealManifest named put) = refl
+of-twice u v (Settle name named digest) = refl
+of-twice u v (PutArtifact named put) = refl
+of-twice u v (ShowProject name) = refl
+of-twice u v (BeginUpload name) = refl
+of-twice u v (EndUpload job upload) = refl
+of-twice u v (NotePull name digest) = refl
+
+put-same : (u : ℕ) (ask : Ask) → put_of (of_upload u ask) ≡ put_of ask
+put-same u (Seal named digest size) = refl
+put-same u (SealManifest named put) = refl
+put-same u (Settle name named digest) = refl
+put-same u (PutArtifact named put) = refl
+put-same u (ShowProject name) = refl
+put-same u (BeginUpload name) = refl
+put-same u (EndUpload job upload) = refl
+put-same u (NotePull name digest) = refl
+
+pub parcel-same : (g : Given) (u : ℕ) (seal : Ask) → parcel_of g (of_upload u seal) ≡ parcel_of g seal
+parcel-same g u seal = ap (λ put. record { name = g.name; digest = g.digest; bytes = g.bytes; put = put }) (put-same u seal)
+
+-- an upload that is named leaves the push ready
+pub ready-sealing : (g : Given) (begin seal settle : Ask) (u : ℕ) → IsReady g begin seal settle → IsReady g begin (of_upload u seal) settle
+ready-sealing g begin seal settle u h = record {
+  found_is = h.found_is;
+  begins = h.begins;
+  seals = λ v. of-twice v u seal ∙ h.seals v ∙ ap (seal_with v) (sym (parcel-same g u seal));
+  settles = λ v. h.settles v ∙ ap (settle_with v) (sym (parcel-same g u seal));
+  sealed = λ v. ap seal_of (of-twice v u seal) ∙ h.sealed v;
+}
+
+pub ready-settling : (g : Given) (begin seal settle : Ask) (u : ℕ) → IsReady g begin seal settle → IsReady g begin seal (of_upload u settle)
+ready-settling g begin seal settle u h = record {
+  found_is = h.found_is;
+  begins = h.begins;
+  seals = h.seals;
+  settles = λ v. of-twice v u settle ∙ h.settles v;
+  sealed = h.sealed;
+}
+
+-- what an ask seals is sealed where it is Ok
+sealed-is : (a b : Sealed) → Some a ≡ Some b → a ≡ b
+sealed-is a b e = cc
+
+pub seals-at : (ask : Ask) (x : Sealed) (told : Told) (sealed : List Sealed) → seal_of ask ≡ Some x → Seals ask (Ok told) sealed → sealed_at x.upload sealed ≡ Some x
+seals-at (Seal u d size) x told sealed is h = subst (λ x. sealed_at x.upload sealed ≡ Some x) (sealed-is (record { upload = u; digest = d; size = size }) x is) h
+seals-at (SealManifest u put) x told sealed is h = subst (λ x. sealed_at x.upload sealed ≡ Some x) (sealed-is (record { upload = u; digest = put.digest; size = put.size }) x is) h
+seals-at (ShowProject name) x told sealed is h = cc is
+seals-at (BeginUpload name) x told sealed is h = cc is
+seals-at (EndUpload job upload) x told sealed is h = cc is
+seals-at (Settle name upload d) x told sealed is h = cc is
+seals-at (PutArtifact upload put) x told sealed is h = cc is
+seals-at (NotePull name d) x told sealed is h = cc is

@@ -7,7 +7,7 @@ use Rattle.hb_desk.specs.Calls.{Call, Asked, StageTaken, StageDropped, Outcome}
 use Rattle.hb_desk.specs.Points.{Point}
 use Rattle.hb_desk.specs.declared.asks.Ask.TheVariants.{BeginUpload, EndUpload}
 use Rattle.hb_desk.specs.declared.refusals.Refusal.{Refusal}
-use Rattle.hb_upload.specs.Places.{Blob}
+use Rattle.hb_upload.specs.Places.{Parcel}
 use Rattle.hb_upload.specs.declared.phase.Stop.{Stop}
 use Rattle.hb_upload.specs.declared.phase.Stop.TheVariants.{Pushed, WrongDigest, Refused}
 
@@ -18,11 +18,11 @@ refused_by (Ok gave) (Some refusal) = Some (Refused refusal)
 refused_by (Ok gave) None = None
 
 -- behind the stage its bytes' digest decides
-abbrev pub unless_right : Blob → Option Stop → Option Stop
+abbrev pub unless_right : Parcel → Option Stop → Option Stop
 unless_right b (Some stop) = Some stop
 unless_right b None = if same_digest (digest_of b.bytes) b.digest then None else Some (WrongDigest (digest_of b.bytes))
 
-abbrev pub stops_at : Blob → Call → Outcome → Option Refusal → Option Stop
+abbrev pub stops_at : Parcel → Call → Outcome → Option Refusal → Option Stop
 stops_at b (Asked (BeginUpload name)) outcome fault = refused_by outcome fault
 stops_at b (Asked (EndUpload job upload)) outcome fault = None
 stops_at b (StageTaken name upload start) outcome fault = unless_right b (refused_by outcome fault)
@@ -34,7 +34,7 @@ abbrev pub earlier : Option Stop → Option Stop → Option Stop
 earlier (Some stop) later = Some stop
 earlier None later = later
 
-abbrev pub first_stop : Blob → List Point → Option Stop
+abbrev pub first_stop : Parcel → List Point → Option Stop
 first_stop b [] = None
 first_stop b (p ∷ points) = earlier (first_stop b points) (stops_at b p.event.call p.event.outcome p.fault)
 
@@ -42,5 +42,5 @@ abbrev pub or_pushed : Option Stop → Stop
 or_pushed None = Pushed
 or_pushed (Some stop) = stop
 
-abbrev pub decided : Blob → List Point → Stop
+abbrev pub decided : Parcel → List Point → Stop
 decided b points = or_pushed (first_stop b points)

@@ -1,5 +1,6 @@
 -- A push as it goes: where its phase is, what it rests on at the desk, and what one event makes of it.
 use Rattle.std.specs.Prelude.{◌≡◌, ℕ, Bool, true, false, List, length, Option, Some, None, Ok, IsSomeAnd}
+use Rattle.hb_text.specs.declared.digests.Digest.{Digest}
 use Rattle.hb_text.specs.Digests.{digest_of}
 use Rattle.hb_desk.specs.Calls.{Call, Outcome, StageAt}
 use Rattle.hb_desk.specs.Clause.{EventFrom, View}
@@ -8,7 +9,7 @@ use Rattle.hb_desk.specs.Notes.{sealed_at}
 use Rattle.hb_desk.specs.Points.{IsCaused, point_of}
 use Rattle.hb_desk.specs.State.{State}
 use Rattle.hb_desk.specs.declared.refusals.Refusal.{Refusal}
-use Rattle.hb_upload.specs.Places.{Blob, CallAt, Place, Beginning, Staging, Sealing, Placing, Settling, Ending, Dropping, Stopped, next}
+use Rattle.hb_upload.specs.Places.{Parcel, CallAt, Place, Beginning, Staging, Sealing, Placing, Settling, Ending, Dropping, Stopped, next}
 use Rattle.hb_upload.specs.declared.phase.Phase.{Phase}
 use Rattle.hb_upload.specs.declared.phase.Phase.TheVariants as phase
 
@@ -38,22 +39,22 @@ left_of (phase.End u s stop) = 2
 left_of (phase.Drop u s stop) = 1
 left_of (phase.Ended stop) = 0
 
--- a stage of the upload that has the blob's bytes, which have the digest
-pub record HasBlob {T : Type 0} (upload_of size_of : T → ℕ) (bytes_of : T → Option (List ℕ)) (b : Blob) (u : ℕ) (stage : T) (v : View) : Type 0 where
+-- a stage of the upload that has these bytes, which have the digest
+pub record HasBytes {T : Type 0} (upload_of size_of : T → ℕ) (bytes_of : T → Option (List ℕ)) (digest : Digest) (bytes : List ℕ) (u : ℕ) (stage : T) (v : View) : Type 0 where
   pub upload : upload_of stage ≡ u
-  pub size_is : size_of stage ≡ length b.bytes
-  pub bytes : v.told_bytes ≡ true → IsSomeAnd (bytes_of stage) (λ x. (digest_of x ≡ b.digest) × (length x ≡ length b.bytes))
+  pub size_is : size_of stage ≡ length bytes
+  pub told : v.told_bytes ≡ true → IsSomeAnd (bytes_of stage) (λ x. (digest_of x ≡ digest) × (length x ≡ length bytes))
 
 -- what a push rests on at the desk
-abbrev pub PhaseFits : {T : Type 0} → (T → ℕ) → (T → ℕ) → (T → Option (List ℕ)) → Blob → Phase T → View → Type 0
-PhaseFits upload_of size_of bytes_of b (phase.Seal u s) v = HasBlob upload_of size_of bytes_of b u s v
-PhaseFits upload_of size_of bytes_of b (phase.Place u s) v = HasBlob upload_of size_of bytes_of b u s v × (sealed_at u v.sealed ≡ Some (record { upload = u; digest = b.digest; size = length b.bytes }))
-PhaseFits upload_of size_of bytes_of b (phase.End u (Some s) stop) v = upload_of s ≡ u
-PhaseFits upload_of size_of bytes_of b (phase.Drop u s stop) v = upload_of s ≡ u
-PhaseFits upload_of size_of bytes_of b p v = Unit {0}
+abbrev pub PhaseFits : {T : Type 0} → (T → ℕ) → (T → ℕ) → (T → Option (List ℕ)) → Digest → List ℕ → Phase T → View → Type 0
+PhaseFits upload_of size_of bytes_of digest bytes (phase.Seal u s) v = HasBytes upload_of size_of bytes_of digest bytes u s v
+PhaseFits upload_of size_of bytes_of digest bytes (phase.Place u s) v = HasBytes upload_of size_of bytes_of digest bytes u s v × (sealed_at u v.sealed ≡ Some (record { upload = u; digest = digest; size = length bytes }))
+PhaseFits upload_of size_of bytes_of digest bytes (phase.End u (Some s) stop) v = upload_of s ≡ u
+PhaseFits upload_of size_of bytes_of digest bytes (phase.Drop u s stop) v = upload_of s ≡ u
+PhaseFits upload_of size_of bytes_of digest bytes p v = Unit {0}
 
 -- one event from a place of a push to the next
-pub record OneEvent {T : Type 0} (b : Blob) (before : State) (old new : View) (call : Call) (at : Place) (p : Phase T) : Type 0 where
+pub record OneEvent {T : Type 0} (b : Parcel) (before : State) (old new : View) (call : Call) (at : Place) (p : Phase T) : Type 0 where
   pub outcome : Outcome
   pub fault : Option Refusal
   pub event : EventFrom before old new call outcome
@@ -61,12 +62,12 @@ pub record OneEvent {T : Type 0} (b : Blob) (before : State) (old new : View) (c
   pub leads : place_at p ≡ next b at outcome fault
 
 -- where a push goes on behind a stage that was taken: by what the calls on it were refused by, if they were
-pub record GoesOn {T : Type 0} (b : Blob) (upload offset : ℕ) (p : Phase T) : Type 0 where
+pub record GoesOn {T : Type 0} (b : Parcel) (upload offset : ℕ) (p : Phase T) : Type 0 where
   pub fault : Option Refusal
   pub leads : place_at p ≡ next b (Staging upload) (Ok (StageAt offset)) fault
 
 -- one event by the call that a push makes there
-pub record CalledAt {T : Type 0} (b : Blob) (before : State) (old new : View) (at : Place) (p : Phase T) : Type 0 where
+pub record CalledAt {T : Type 0} (b : Parcel) (before : State) (old new : View) (at : Place) (p : Phase T) : Type 0 where
   pub call : Call
   pub called : CallAt b at call
   pub one : OneEvent b before old new call at p

@@ -1,15 +1,18 @@
 //! The events of a push, one each.
-ghost use Rattle.std.specs.Prelude.{◌≡◌, ◌<◌, ℕ, true, false, length, Some, None, IfSome, IsSomeAnd, is_some};
+ghost use Rattle.std.specs.Prelude.{◌≡◌, ◌<◌, ℕ, List, true, false, length, Some, None, IfSome, IsSomeAnd, is_some};
 ghost use Rattle.hb_text.specs.Digests.{digest_of};
 ghost use Rattle.hb_model.specs.Words.{same_digest};
 ghost use Rattle.hb_desk.specs.Calls.{Asked, StageTaken, StagePlaced, StageDropped};
 ghost use Rattle.hb_desk.specs.Clause.{View};
 ghost use Rattle.hb_desk.specs.Notes.{sealed_at};
+ghost use Rattle.hb_desk.specs.Noting.{seal_of};
+ghost use Rattle.hb_desk.specs.declared.asks.Ask.{Ask as Asking};
+ghost use Rattle.hb_text.specs.declared.digests.Digest.{Digest as AnyDigest};
 ghost use Rattle.hb_desk.specs.Points.{Moves};
-ghost use Rattle.hb_desk.specs.declared.asks.Ask.TheVariants.{BeginUpload, EndUpload, Seal as SealAsked, Settle as SettleAsked};
-ghost use Rattle.hb_upload.specs.Phases.{GoesOn, HasBlob, OneEvent, PhaseFits, left_of};
-ghost use Rattle.hb_upload.specs.Places.{Blob, Beginning, Staging, Sealing, Placing, Settling, Ending, Dropping};
-ghost use Rattle.hb_upload.specs.Pushes.{blob_of};
+ghost use Rattle.hb_desk.specs.declared.asks.Ask.TheVariants.{BeginUpload, EndUpload};
+ghost use Rattle.hb_upload.specs.Phases.{GoesOn, HasBytes, OneEvent, PhaseFits, left_of};
+ghost use Rattle.hb_upload.specs.Places.{Parcel, seal_with, settle_with, Beginning, Staging, Sealing, Placing, Settling, Ending, Dropping};
+ghost use Rattle.hb_upload.specs.Pushes.{parcel_of};
 ghost use Rattle.hb_upload.specs.declared.phase.Phase.TheVariants as phase;
 ghost use Rattle.hb_upload.specs.declared.phase.Stop.{Stop as Stopping};
 ghost use Rattle.hb_upload.specs.declared.phase.Stop.TheVariants as stop;
@@ -21,9 +24,9 @@ use hb_text::Digest;
 
 /// The upload begins.
 pub(crate) fn begin_step<D: Desk>(desk: &mut D, ask: &Ask, now: u64) -> Phase<D::Stage>
-    ensures event { (b : Blob) → ask.now ≡ BeginUpload b.name → IfSome (D.view desk.old).state (λ s. OneEvent b s (D.view desk.old) (D.view desk.new) (Asked (BeginUpload b.name)) Beginning result) }
+    ensures event { (b : Parcel) → ask.now ≡ BeginUpload b.name → IfSome (D.view desk.old).state (λ s. OneEvent b s (D.view desk.old) (D.view desk.new) (Asked (BeginUpload b.name)) Beginning result) }
     ensures moves { Moves (D.view desk.old) (D.view desk.new) }
-    ensures fits { (b : Blob) → PhaseFits D.Stage.upload D.Stage.size D.Stage.bytes b result (D.view desk.new) }
+    ensures fits { (digest : AnyDigest) (bytes : List ℕ) → PhaseFits D.Stage.upload D.Stage.size D.Stage.bytes digest bytes result (D.view desk.new) }
     ensures falls { left_of result < 7 }
 {
     match desk.ask(ask, now) {
@@ -65,8 +68,8 @@ fn filled<T: Stage>(taken: Staged<T>, given: &Given, upload: u64) -> Phase<T>
     requires found { given.now.found ≡ digest_of given.now.bytes }
     requires upload { T.upload taken.stage ≡ upload }
     requires size { T.size taken.stage ≡ taken.offset }
-    ensures leads { GoesOn (blob_of given.now) upload taken.offset result }
-    ensures fits { (v : View) → (v.told_bytes ≡ true → IsSomeAnd (T.bytes taken.stage) (λ x. length x ≡ taken.offset)) → PhaseFits T.upload T.size T.bytes (blob_of given.now) result v }
+    ensures leads { (seal : Asking) → GoesOn (parcel_of given.now seal) upload taken.offset result }
+    ensures fits { (v : View) → (v.told_bytes ≡ true → IsSomeAnd (T.bytes taken.stage) (λ x. length x ≡ taken.offset)) → PhaseFits T.upload T.size T.bytes given.now.digest given.now.bytes result v }
     ensures falls { left_of result < 6 }
 {
     let mut stage = taken.stage;
@@ -95,9 +98,9 @@ pub(crate) fn stage_step<D: Desk>(
     now: u64,
 ) -> Phase<D::Stage>
     requires { given.now.found ≡ digest_of given.now.bytes }
-    ensures event { IfSome (D.view desk.old).state (λ s. OneEvent (blob_of given.now) s (D.view desk.old) (D.view desk.new) (StageTaken given.now.name upload None) (Staging upload) result) }
+    ensures event { (seal : Asking) → IfSome (D.view desk.old).state (λ s. OneEvent (parcel_of given.now seal) s (D.view desk.old) (D.view desk.new) (StageTaken given.now.name upload None) (Staging upload) result) }
     ensures moves { Moves (D.view desk.old) (D.view desk.new) }
-    ensures fits { PhaseFits D.Stage.upload D.Stage.size D.Stage.bytes (blob_of given.now) result (D.view desk.new) }
+    ensures fits { PhaseFits D.Stage.upload D.Stage.size D.Stage.bytes given.now.digest given.now.bytes result (D.view desk.new) }
     ensures falls { left_of result < 6 }
 {
     match desk.stage(&given.name, upload, None, now) {
@@ -114,22 +117,19 @@ pub(crate) fn stage_step<D: Desk>(
 pub(crate) fn seal_step<D: Desk>(
     desk: &mut D,
     given: &Given,
+    ask: &Ask,
     upload: u64,
     stage: D::Stage,
     now: u64,
 ) -> Phase<D::Stage>
-    requires { HasBlob D.Stage.upload D.Stage.size D.Stage.bytes (blob_of given.now) upload stage (D.view desk.old) }
-    ensures event { IfSome (D.view desk.old).state (λ s. OneEvent (blob_of given.now) s (D.view desk.old) (D.view desk.new) (Asked (SealAsked upload given.now.digest (length given.now.bytes))) (Sealing upload) result) }
+    requires seals { seal_of ask.now ≡ Some (record { upload = upload; digest = given.now.digest; size = length given.now.bytes }) }
+    requires stage { HasBytes D.Stage.upload D.Stage.size D.Stage.bytes given.now.digest given.now.bytes upload stage (D.view desk.old) }
+    ensures event { (b : Parcel) → ask.now ≡ seal_with upload b → IfSome (D.view desk.old).state (λ s. OneEvent b s (D.view desk.old) (D.view desk.new) (Asked (seal_with upload b)) (Sealing upload) result) }
     ensures moves { Moves (D.view desk.old) (D.view desk.new) }
-    ensures fits { PhaseFits D.Stage.upload D.Stage.size D.Stage.bytes (blob_of given.now) result (D.view desk.new) }
+    ensures fits { PhaseFits D.Stage.upload D.Stage.size D.Stage.bytes given.now.digest given.now.bytes result (D.view desk.new) }
     ensures falls { left_of result < 5 }
 {
-    let ask = Ask::Seal {
-        upload,
-        digest: given.digest,
-        size: given.bytes.bytes().len() as u64,
-    };
-    match desk.ask(&ask, now) {
+    match desk.ask(ask, now) {
         Ok(_) => Phase::Place { upload, stage },
         Err(refusal) => Phase::End {
             upload,
@@ -147,11 +147,11 @@ pub(crate) fn place_step<D: Desk>(
     stage: D::Stage,
     now: u64,
 ) -> Phase<D::Stage>
-    requires stage { HasBlob D.Stage.upload D.Stage.size D.Stage.bytes (blob_of given.now) upload stage (D.view desk.old) }
+    requires stage { HasBytes D.Stage.upload D.Stage.size D.Stage.bytes given.now.digest given.now.bytes upload stage (D.view desk.old) }
     requires own { sealed_at upload (D.view desk.old).sealed ≡ Some (record { upload = upload; digest = given.now.digest; size = length given.now.bytes }) }
-    ensures event { IfSome (D.view desk.old).state (λ s. OneEvent (blob_of given.now) s (D.view desk.old) (D.view desk.new) (StagePlaced upload given.now.digest) (Placing upload) result) }
+    ensures event { (seal : Asking) → IfSome (D.view desk.old).state (λ s. OneEvent (parcel_of given.now seal) s (D.view desk.old) (D.view desk.new) (StagePlaced upload given.now.digest) (Placing upload) result) }
     ensures moves { Moves (D.view desk.old) (D.view desk.new) }
-    ensures fits { PhaseFits D.Stage.upload D.Stage.size D.Stage.bytes (blob_of given.now) result (D.view desk.new) }
+    ensures fits { PhaseFits D.Stage.upload D.Stage.size D.Stage.bytes given.now.digest given.now.bytes result (D.view desk.new) }
     ensures falls { left_of result < 4 }
 {
     match desk.place(upload, stage, &given.digest, now) {
@@ -164,9 +164,9 @@ pub(crate) fn place_step<D: Desk>(
 
 /// The project gets what was placed.
 pub(crate) fn settle_step<D: Desk>(desk: &mut D, ask: &Ask, now: u64) -> Phase<D::Stage>
-    ensures event { (b : Blob) (upload : ℕ) → ask.now ≡ SettleAsked b.name upload b.digest → IfSome (D.view desk.old).state (λ s. OneEvent b s (D.view desk.old) (D.view desk.new) (Asked (SettleAsked b.name upload b.digest)) (Settling upload) result) }
+    ensures event { (b : Parcel) (upload : ℕ) → ask.now ≡ settle_with upload b → IfSome (D.view desk.old).state (λ s. OneEvent b s (D.view desk.old) (D.view desk.new) (Asked (settle_with upload b)) (Settling upload) result) }
     ensures moves { Moves (D.view desk.old) (D.view desk.new) }
-    ensures fits { (b : Blob) → PhaseFits D.Stage.upload D.Stage.size D.Stage.bytes b result (D.view desk.new) }
+    ensures fits { (digest : AnyDigest) (bytes : List ℕ) → PhaseFits D.Stage.upload D.Stage.size D.Stage.bytes digest bytes result (D.view desk.new) }
     ensures falls { left_of result < 3 }
 {
     match desk.ask(ask, now) {
@@ -186,9 +186,9 @@ pub(crate) fn end_step<D: Desk>(
     now: u64,
 ) -> Phase<D::Stage>
     requires { IfSome stage (λ s. D.Stage.upload s ≡ upload) }
-    ensures event { (b : Blob) → IfSome (D.view desk.old).state (λ s. OneEvent b s (D.view desk.old) (D.view desk.new) (Asked (EndUpload 0 upload)) (Ending upload (is_some stage) stop) result) }
+    ensures event { (b : Parcel) → IfSome (D.view desk.old).state (λ s. OneEvent b s (D.view desk.old) (D.view desk.new) (Asked (EndUpload 0 upload)) (Ending upload (is_some stage) stop) result) }
     ensures moves { Moves (D.view desk.old) (D.view desk.new) }
-    ensures fits { (b : Blob) → PhaseFits D.Stage.upload D.Stage.size D.Stage.bytes b result (D.view desk.new) }
+    ensures fits { (digest : AnyDigest) (bytes : List ℕ) → PhaseFits D.Stage.upload D.Stage.size D.Stage.bytes digest bytes result (D.view desk.new) }
     ensures falls { left_of result < 2 }
 {
     let _ended = desk.ask(&Ask::EndUpload { job: 0, upload }, now);
@@ -211,9 +211,9 @@ pub(crate) fn drop_step<D: Desk>(
     now: u64,
 ) -> Phase<D::Stage>
     requires { D.Stage.upload stage ≡ upload }
-    ensures event { (b : Blob) → IfSome (D.view desk.old).state (λ s. OneEvent b s (D.view desk.old) (D.view desk.new) (StageDropped upload true) (Dropping upload stop) result) }
+    ensures event { (b : Parcel) → IfSome (D.view desk.old).state (λ s. OneEvent b s (D.view desk.old) (D.view desk.new) (StageDropped upload true) (Dropping upload stop) result) }
     ensures moves { Moves (D.view desk.old) (D.view desk.new) }
-    ensures fits { (b : Blob) → PhaseFits D.Stage.upload D.Stage.size D.Stage.bytes b result (D.view desk.new) }
+    ensures fits { (digest : AnyDigest) (bytes : List ℕ) → PhaseFits D.Stage.upload D.Stage.size D.Stage.bytes digest bytes result (D.view desk.new) }
     ensures falls { left_of result < 1 }
 {
     let _dropped = desk.drop_stage(upload, stage, now);

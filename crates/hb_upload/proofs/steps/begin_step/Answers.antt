@@ -9,6 +9,6 @@ pub returns-in-Ok : goal.returns-in-Ok
 returns-in-Ok g c = record {
   event = λ b is. one-event b (g.D.Desk.view c.args.desk.now) (g.D.Desk.view c.ask.new.self) c.args.now _ _ (plain Tells c.ask.result) (Some Memory) Beginning _ (ap Asked is) c.ask.ensures.event c.ask.ensures.causes (ap (λ r. next b Beginning (plain Tells r) (Some Memory)) (sym c.in-Ok.is));
   moves = search rules;
-  fits = λ b. tt;
+  fits = λ digest bytes. tt;
   falls = omega arith;
 }
