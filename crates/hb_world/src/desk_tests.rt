@@ -10,6 +10,7 @@ use hb_store::{MemStore, Reader, Stage};
 use hb_text::{Digest, Name, Reference, Tag, Text};
 use std::alloc::Global;
 use std::marker::Model;
+use std::process::Abort;
 use std::test::Fail;
 
 const NOW: u64 = 1_700_000_000;
@@ -279,23 +280,59 @@ fn shared(alloc: Global) -> Result<Alone<MemWorld, Other>, Fail> {
     Ok(Alone::new(alloc, world, other))
 }
 
+// The reference that the manifest is refused for, where it is.
+fn missing<D: Desk>(alloc: Global, desk: &mut D, name: &Name) -> Option<Digest> {
+    match put(alloc, desk, name) {
+        Err(Refusal::MissingRef { digest }) => Some(digest),
+        _ => None,
+    }
+}
+
+// Pushes what the manifest refers to, and puts it before and behind the last of it. It gives what the first put was
+// refused for.
+fn push_and_put<D: Desk>(
+    alloc: Global,
+    desk: &mut D,
+    name: &Name,
+) -> Result<Option<Digest>, Refusal> {
+    push(alloc, desk, name, b"{}")?;
+    let missed = missing(alloc, desk, name);
+    push(alloc, desk, name, b"abc")?;
+    put(alloc, desk, name)?;
+    Ok(missed)
+}
+
+// The manifest and both blobs are opened whole.
+fn opens<D: Desk>(
+    rt: &impl Abort,
+    alloc: Global,
+    desk: &mut D,
+    name: &Name,
+) -> Result<(), Refusal> {
+    let manifest = tagged(alloc, desk, name)?;
+    assert_eq!(rt; manifest, whole(MANIFEST));
+    let abc = blob(desk, name, b"abc")?;
+    assert_eq!(rt; abc, whole(b"abc"));
+    let config = blob(desk, name, b"{}")?;
+    assert_eq!(rt; config, whole(b"{}"));
+    Ok(())
+}
+
+// Each is what it is to be, over a desk that others share.
+fn puts<D: Desk>(rt: &impl Abort, alloc: Global, desk: &mut D, name: &Name) -> Result<(), Refusal> {
+    let missed = push_and_put(alloc, desk, name)?;
+    assert_eq!(rt; missed, Some(Digest::of(b"abc")));
+    opens(rt, alloc, desk, name)?;
+    assert_eq!(rt; (desk.seen(), desk.last()), (35, 32));
+    Ok(())
+}
+
 // A manifest is put where what it refers to is there, while another caller acts before each event.
 #[test]
 fn a_manifest_is_put_while_another_acts(rt: HostRuntime) -> Result<(), Fail> {
-    let alloc = rt.alloc();
-    let name = Name::read(alloc, b"library/a")?;
-    let mut desk = shared(alloc)?;
-    assert_eq!(rt; push(alloc, &mut desk, &name, b"{}"), Ok(()));
-    let missing = Refusal::MissingRef {
-        digest: Digest::of(b"abc"),
-    };
-    assert_eq!(rt; put(alloc, &mut desk, &name), Err(missing));
-    assert_eq!(rt; push(alloc, &mut desk, &name, b"abc"), Ok(()));
-    assert_eq!(rt; put(alloc, &mut desk, &name), Ok(()));
-    assert_eq!(rt; tagged(alloc, &mut desk, &name)?, whole(MANIFEST));
-    assert_eq!(rt; blob(&mut desk, &name, b"abc")?, whole(b"abc"));
-    assert_eq!(rt; blob(&mut desk, &name, b"{}")?, whole(b"{}"));
-    assert_eq!(rt; (desk.seen(), desk.last()), (35, 32));
+    let name = Name::read(rt.alloc(), b"library/a")?;
+    let mut desk = shared(rt.alloc())?;
+    puts(&rt, rt.alloc(), &mut desk, &name)?;
     Ok(())
 }
 
