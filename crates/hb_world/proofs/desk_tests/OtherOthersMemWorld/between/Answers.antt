@@ -1,7 +1,0 @@
-use Rattle.std.proofs.Common.{refl}
-use Rattle.hb_desk.specs.Calls.{Asked}
-use Rattle.hb_desk.proofs.Interleave.{one-between}
-use Rattle.hb_world.proofs.desk_tests.OtherOthersMemWorld.between.Goals as goal
-
-pub returns : goal.returns
-returns c = one-between _ _ c.args.now (Asked c.self.inside.ask) _ (λ u. c.self.invariant u _) (λ none. cc none) refl refl c.ask-_asked.ensures.event c.ask-_asked.ensures.causes
