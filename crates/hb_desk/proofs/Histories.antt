@@ -28,7 +28,7 @@ events-history [] s h fits = h
 events-history (ev ∷ events) s h fits = event-history ev (after events s) (events-history events s h fits.1) fits.0.later
 
 -- ---- what was seen stays
-entered-goes : (t : ℕ) (made : Option EntryKind) (audit : List AuditEntry) → GoesOn audit (entered t made audit)
+pub entered-goes : (t : ℕ) (made : Option EntryKind) (audit : List AuditEntry) → GoesOn audit (entered t made audit)
 entered-goes t None audit = ([], refl)
 entered-goes t (Some kind) audit = (record { number = suc (length audit); moment = t; kind = kind } ∷ [], refl)
 

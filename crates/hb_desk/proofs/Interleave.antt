@@ -294,10 +294,9 @@ sealed-kept ask (Err refusal) seal slot new sealed refused is slot_is refused_is
 
 -- ---- what others do
 -- one event of theirs that moves no seal
-pub one-between : (old new : View) (now : ℕ) (call : Call) (outcome : Outcome) → ((u : ℕ) → moves_seal u call outcome ≡ false) → (old.state ≡ None → new.state ≡ None) → old.spent ≡ false → new.spent ≡ false → EventOf old new call outcome → Causes old new now call outcome → Between old new
-one-between old new now call outcome unmoved untold before seat event causes = record {
+pub one-between : (old new : View) (now : ℕ) (call : Call) (outcome : Outcome) → ((u : ℕ) → moves_seal u call outcome ≡ false) → old.spent ≡ false → new.spent ≡ false → EventOf old new call outcome → Causes old new now call outcome → Between old new
+one-between old new now call outcome unmoved before seat event causes = record {
   events = go old.state event;
-  untold = untold;
   keeper_later = causes.keeper_later;
   store_later = causes.store_later;
   entries = causes.entries;

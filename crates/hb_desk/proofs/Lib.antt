@@ -1,4 +1,5 @@
 pub mod AskedWhole
+pub mod Chains
 pub mod Histories
 pub mod Interleave
 pub mod LegalReplies

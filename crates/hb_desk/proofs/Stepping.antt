@@ -11,10 +11,10 @@ use Rattle.hb_desk.specs.declared.told.Told.{Told}
 use Rattle.hb_desk.specs.declared.refusals.Refusal.{Refusal}
 
 -- the operation goes on by the event's point, wherever it stood
-pub one-step : {O : Type 0} (old new : View) (now : ℕ) (call : Call) (outcome : Outcome) (fault : Option Refusal) (went went' : O → List Point → Type 0) → EventOf old new call outcome → Causes old new now call outcome → ((s : State) (begun : O) (points : List Point) → went begun points → went' begun (point_of old new s call outcome fault ∷ points)) → Steps old new went went'
-one-step {O} old new now call outcome fault went went' event causes goes = go old.state event
+pub one-step : {O : Type 0} (Streams : Option Refusal → Type 0) (old new : View) (now : ℕ) (call : Call) (outcome : Outcome) (fault : Option Refusal) (went went' : O → List Point → Type 0) → EventOf old new call outcome → Causes old new now call outcome → Streams fault → ((s : State) (begun : O) (points : List Point) → went begun points → went' begun (point_of old new s call outcome fault ∷ points)) → Steps Streams old new went went'
+one-step {O} Streams old new now call outcome fault went went' event causes stream goes = go old.state event
   where
-    go : (state : Option State) → IfSome state (λ s. EventFrom s old new call outcome) → IfSome state (λ s. Stepped {O = O} s old new went went')
+    go : (state : Option State) → IfSome state (λ s. EventFrom s old new call outcome) → IfSome state (λ s. Stepped {O = O} Streams s old new went went')
     go None e = tt
     go (Some s) e = record {
       call = call;
@@ -22,6 +22,7 @@ one-step {O} old new now call outcome fault went went' event causes goes = go ol
       fault = fault;
       event = e;
       caused = record { keeper = causes.keeper; storage = causes.storage };
+      stream = stream;
       goes = λ begun points h. goes (after e.others s) begun points h;
     }
 

@@ -128,7 +128,6 @@ Seals ask result sealed = Unit {0}
 -- What others may do to a desk between two events of its caller.
 pub record Between (old new : View) : Type 0 where
   pub events : IfSome old.state (λ s. (es : List Event) × AllFit es s × (new.state ≡ Some (after es s)))
-  pub untold : old.state ≡ None → new.state ≡ None
   pub keeper_later : old.keeper_faults ≤ new.keeper_faults
   pub store_later : old.store_faults ≤ new.store_faults
   pub entries : old.entries ≤ new.entries

@@ -1,5 +1,6 @@
 pub mod Alone
 pub mod Calls
+pub mod Chains
 pub mod Clause
 pub mod Events
 pub mod Keeping

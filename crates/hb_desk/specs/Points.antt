@@ -1,12 +1,13 @@
 -- The points of an operation's events: where each stood, and what it was. The newest stands first.
-use Rattle.std.specs.Prelude.{◌≡◌, ◌≤◌, ℕ, List, ◌∷◌, Option, Some, None, Err, IfSome}
+use Rattle.std.specs.Prelude.{◌≡◌, ◌≤◌, ◌⊎◌, ℕ, List, ◌∷◌, Option, Some, None, Err, IfSome}
 use Rattle.hb_outside.specs.Causes.{Rose}
+use Rattle.hb_store.specs.Causes.{SomeRose}
 use Rattle.hb_desk.specs.Calls.{Call, Outcome}
 use Rattle.hb_desk.specs.Clause.{View, EventFrom}
 use Rattle.hb_desk.specs.Events.{Event, after}
 use Rattle.hb_desk.specs.State.{State}
 use Rattle.hb_desk.specs.declared.refusals.Refusal.{Refusal}
-use Rattle.hb_desk.specs.declared.refusals.Refusal.TheVariants.{Keeper, Storage}
+use Rattle.hb_desk.specs.declared.refusals.Refusal.TheVariants.{Memory, Keeper, Storage}
 
 pub record Point : Type 0 where
   -- what the event stood at
@@ -45,17 +46,25 @@ point_of old new state call outcome fault = record {
   fault = fault;
 }
 
--- One event of a desk, which adds its point to those of an operation.
-pub record Stepped {O : Type 0} (before : State) (old new : View) (went went' : O → List Point → Type 0) : Type 0 where
+-- What a call on a stage or a reader is refused for: want of memory, or the storage's fault, where the count of faults of
+-- such a one rose.
+abbrev pub IsStreamFault : (Stage Reader : Type 0) → (Stage → ℕ) → (Reader → ℕ) → Option Refusal → Type 0
+IsStreamFault Stage Reader stage_faults reader_faults fault =
+    IfSome fault (λ refusal. (refusal ≡ Memory) ⊎ ((refusal ≡ Storage) × (SomeRose Stage stage_faults ⊎ SomeRose Reader reader_faults)))
+
+-- One event of a desk, which adds its point to those of an operation. Streams says of a call on the stage or the reader
+-- that it gave what that may be refused for.
+pub record Stepped {O : Type 0} (Streams : Option Refusal → Type 0) (before : State) (old new : View) (went went' : O → List Point → Type 0) : Type 0 where
   pub call : Call
   pub outcome : Outcome
   pub fault : Option Refusal
   pub event : EventFrom before old new call outcome
   pub caused : IsCaused (point_of old new (after event.others before) call outcome fault)
+  pub stream : Streams fault
   pub goes : (begun : O) (points : List Point) → went begun points → went' begun (point_of old new (after event.others before) call outcome fault ∷ points)
 
-abbrev pub Steps : {O : Type 0} → View → View → (O → List Point → Type 0) → (O → List Point → Type 0) → Type 0
-Steps old new went went' = IfSome old.state (λ before. Stepped before old new went went')
+abbrev pub Steps : {O : Type 0} → (Option Refusal → Type 0) → View → View → (O → List Point → Type 0) → (O → List Point → Type 0) → Type 0
+Steps Streams old new went went' = IfSome old.state (λ before. Stepped Streams before old new went went')
 
 -- the numbers of a desk over an event, whatever it was
 pub record Moves (old new : View) : Type 0 where

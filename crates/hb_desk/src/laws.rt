@@ -1,11 +1,14 @@
 //! What holds of replies and of events, whatever desk answers. Each function does nothing: its contract is the law.
-ghost use Rattle.std.specs.Prelude.{◌≡◌, ◌≤◌, ℕ, suc, false, List, length, None, Some};
+ghost use Rattle.std.specs.Prelude.{◌≡◌, ◌≤◌, ℕ, suc, true, false, List, length, Some};
+ghost use Rattle.std.specs.List.{AllByRecursion};
 ghost use Rattle.hb_records.specs.declared.entries.EntryKind.{EntryKind};
 ghost use Rattle.hb_model.specs.History.{History, Legal, latest};
 ghost use Rattle.hb_desk.specs.Calls.{Call, Outcome};
+ghost use Rattle.hb_desk.specs.Chains.{Chain, Stands};
 ghost use Rattle.hb_desk.specs.Clause.{AllFit, Between, Causes, EventOf, View, moves_seal};
 ghost use Rattle.hb_desk.specs.Events.{Event, after};
 ghost use Rattle.hb_desk.specs.Keeping.{AsksKeepWhole};
+ghost use Rattle.hb_desk.specs.Points.{Point};
 ghost use Rattle.hb_desk.specs.Prefix.{GoesOn};
 ghost use Rattle.hb_desk.specs.Reply.{reply};
 ghost use Rattle.hb_desk.specs.State.{State};
@@ -36,6 +39,14 @@ pub fn asks_keep_the_registry_whole()
 /// One event of theirs that seals nothing and places nothing is what others may do between two events of a caller.
 pub fn one_event_is_what_others_may_do()
     ensures { (old new : View) (now : ℕ) (call : Call) (outcome : Outcome) → ((u : ℕ) → moves_seal u call outcome ≡ false)
-        → (old.state ≡ None → new.state ≡ None) → old.spent ≡ false → new.spent ≡ false
-        → EventOf old new call outcome → Causes old new now call outcome → Between old new }
+        → old.spent ≡ false → new.spent ≡ false → EventOf old new call outcome → Causes old new now call outcome
+        → Between old new }
+{}
+
+/// What a caller had seen stays. So does what its events made: behind each point stands what happened there, and an
+/// entry of it is among the caller's own.
+pub fn points_stand_in_what_was_seen()
+    ensures { (start now : View) (points : List Point) (s t : State) → Chain start points now
+        → start.state ≡ Some s → now.state ≡ Some t
+        → GoesOn s.audit t.audit × AllByRecursion (Stands t.audit (λ n. now.mine n ≡ true)) points }
 {}

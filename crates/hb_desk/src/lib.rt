@@ -1,4 +1,10 @@
 //! The desk: the one contract between the world and the operations above it.
+//!
+//! - [`Desk`]: a registry as one caller meets it. Each call of it is one event, whose contract is `specs/Clause`.
+//! - [`Op`]: an operation, which makes one event a step. `specs/Points` says what its events were, and `specs/Chains` how
+//!   they stand one after another.
+//! - [`Alone`]: a desk that lets [`Others`] act before each event.
+//! - [`Ask`], [`Told`], [`Refusal`], [`Opened`], [`Staged`]: what is asked and told. [`Answer`]: what is answered over HTTP.
 #![tactic(auto)]
 
 mod alone;
@@ -21,7 +27,7 @@ pub use desk::Desk;
 pub use gave::{Opened, Staged};
 pub use laws::{
     asks_keep_the_registry_whole, events_keep_a_history, one_event_is_what_others_may_do,
-    what_is_replied_is_legal, what_was_seen_stays,
+    points_stand_in_what_was_seen, what_is_replied_is_legal, what_was_seen_stays,
 };
 pub use ops::{Op, Progress};
 pub use refusals::Refusal;

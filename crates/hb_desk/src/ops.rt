@@ -1,6 +1,6 @@
 ghost use Rattle.std.specs.Prelude.{◌≡◌, ◌<◌, ◌↔◌, ℕ, Bool, List, true, false};
 ghost use Rattle.hb_desk.specs.Clause.{View};
-ghost use Rattle.hb_desk.specs.Points.{Point, Steps, Moves};
+ghost use Rattle.hb_desk.specs.Points.{IsStreamFault, Point, Steps, Moves};
 
 use crate::desk::Desk;
 
@@ -38,7 +38,7 @@ pub trait Op<D: Desk> {
         requires ready { done self.old ≡ false }
         requires fed { wants self.old ≡ false }
         requires fits { fits self.old (D.view desk.old) }
-        ensures event { Steps (D.view desk.old) (D.view desk.new) (λ begun points. since begun self.old points) (λ begun points. since begun self.new points) }
+        ensures event { Steps (IsStreamFault D.Stage D.Reader D.Stage.faults D.Reader.faults) (D.view desk.old) (D.view desk.new) (λ begun points. since begun self.old points) (λ begun points. since begun self.new points) }
         ensures moves { Moves (D.view desk.old) (D.view desk.new) }
         ensures done { result ≡ Progress.Done ↔ (done self.new ≡ true) }
         ensures more { result ≡ Progress.More → left self.new (D.view desk.new).entries < left self.old (D.view desk.old).entries }

@@ -1,4 +1,5 @@
 use hb_records::{Memory, Name};
+use hb_store::StoreFault;
 use hb_text::Digest;
 use std::alloc::AllocError;
 
@@ -87,5 +88,20 @@ impl From<AllocError> for Refusal {
 
     fn from(_fault: AllocError) -> Refusal {
         Refusal::Memory
+    }
+}
+
+impl From<StoreFault> for Refusal {
+    ghost use Rattle.std.specs.Prelude.{◌≡◌};
+    ghost use Rattle.hb_desk.specs.declared.refusals.Refusal.TheVariants.{Memory as WantOfMemory, Storage as StorageFailed};
+    ghost use Rattle.hb_store.specs.declared.store.StoreFault.TheVariants as store;
+
+    ghost from_gives = { λ given refusal. (given ≡ store.Failed → refusal ≡ StorageFailed) × (given ≡ store.Memory → refusal ≡ WantOfMemory) };
+
+    fn from(fault: StoreFault) -> Refusal {
+        match fault {
+            StoreFault::Failed => Refusal::Storage,
+            StoreFault::Memory => Refusal::Memory,
+        }
     }
 }
