@@ -1,17 +1,21 @@
 -- What an event makes of a push, and what its points decide.
-use Rattle.std.proofs.Common.{◌≡◌, ℕ, Bool, true, false, cond, List, [], ◌∷◌, ◌++◌, length, Option, Some, None, Ok, Err, IfSome, IsSomeAnd, is_some, refl, sym, ap, subst, ◌∙◌, arith}
+use Rattle.std.proofs.Common.{◌≡◌, ℕ, Bool, true, false, cond, List, [], ◌∷◌, ◌++◌, length, Option, Some, None, Ok, Err, IfSome, IsSomeAnd, is_some, inl, inr, refl, sym, ap, subst, ◌∙◌, arith}
 use Rattle.hb_text.specs.Digests.{digest_of}
 use Rattle.hb_text.specs.declared.digests.Digest.{Digest}
 use Rattle.hb_store.specs.Bytes.{Appends}
+use Rattle.hb_store.specs.Causes.{StoreCause}
+use Rattle.hb_store.specs.declared.store.StoreFault.{StoreFault}
+use Rattle.hb_store.specs.declared.store.StoreFault.TheVariants as store
 use Rattle.hb_model.specs.Words.{same_digest}
 use Rattle.hb_history.proofs.Settled.{exact-digest}
 use Rattle.hb_desk.specs.Calls.{Asked, Call, Gave, Tells, StageAt, Outcome}
 use Rattle.hb_desk.specs.Clause.{Causes, EventFrom, EventOf, Seals, View}
 use Rattle.hb_desk.specs.Events.{after}
-use Rattle.hb_desk.specs.Points.{Point, Stepped, point_of}
+use Rattle.hb_desk.specs.Points.{IsStreamFault, Point, Stepped, point_of}
 use Rattle.hb_desk.specs.State.{State}
 use Rattle.hb_desk.specs.declared.told.Told.TheVariants as told
 use Rattle.hb_desk.specs.declared.refusals.Refusal.{Refusal}
+use Rattle.hb_desk.specs.declared.refusals.Refusal.TheVariants.{Memory, Storage}
 use Rattle.hb_records.specs.declared.notes.Sealed.{Sealed}
 use Rattle.hb_desk.specs.Notes.{sealed_at}
 use Rattle.hb_desk.specs.Noting.{seal_of}
@@ -19,7 +23,7 @@ use Rattle.hb_desk.specs.declared.asks.Ask.{Ask}
 use Rattle.hb_desk.specs.declared.asks.Ask.TheVariants.{ShowProject, BeginUpload, EndUpload, Seal, SealManifest, Settle, PutArtifact, NotePull}
 use Rattle.hb_desk.specs.declared.told.Told.{Told}
 use Rattle.hb_upload.specs.Deciding.{decided, earlier, first_stop, or_pushed, refused_by, stops_at, unless_right}
-use Rattle.hb_upload.specs.Phases.{CalledAt, OneEvent, PhaseFits, place_at}
+use Rattle.hb_upload.specs.Phases.{CalledAt, IsStageFault, OneEvent, PhaseFits, place_at}
 use Rattle.hb_upload.specs.Places.{Parcel, seal_by, seal_with, settle_by, settle_with, CallAt, Calls, Place, Beginning, Staging, Sealing, Placing, Settling, Ending, Dropping, Stopped, next, place_of, staged}
 use Rattle.hb_upload.specs.Pushes.{IsReady, PushParts, Went, of_upload, parcel_of, put_of}
 use Rattle.hb_upload.specs.declared.phase.Given.{Given}
@@ -30,29 +34,30 @@ use Rattle.hb_upload.specs.declared.phase.Stop.{Stop}
 use Rattle.hb_upload.specs.declared.phase.Stop.TheVariants.{Pushed, WrongDigest, Refused}
 
 -- ---- one event
-pub one-event : {T : Type 0} (b : Parcel) (old new : View) (now : ℕ) (made call : Call) (outcome : Outcome) (fault : Option Refusal) (at : Place) (p : Phase T) → made ≡ call → EventOf old new made outcome → Causes old new now made outcome → place_at p ≡ next b at outcome fault → IfSome old.state (λ s. OneEvent b s old new call at p)
-one-event {T = T} b old new now made call outcome fault at p is event causes leads = go old.state (subst (λ call. EventOf old new call outcome) is event)
+pub one-event : {T : Type 0} (Streams : Option Refusal → Type 0) (b : Parcel) (old new : View) (now : ℕ) (made call : Call) (outcome : Outcome) (fault : Option Refusal) (at : Place) (p : Phase T) → made ≡ call → EventOf old new made outcome → Causes old new now made outcome → Streams fault → place_at p ≡ next b at new.moment outcome fault → IfSome old.state (λ s. OneEvent Streams b s old new call at p)
+one-event {T = T} Streams b old new now made call outcome fault at p is event causes stream leads = go old.state (subst (λ call. EventOf old new call outcome) is event)
   where
-    go : (state : Option State) → IfSome state (λ s. EventFrom s old new call outcome) → IfSome state (λ s. OneEvent {T = T} b s old new call at p)
+    go : (state : Option State) → IfSome state (λ s. EventFrom s old new call outcome) → IfSome state (λ s. OneEvent {T = T} Streams b s old new call at p)
     go None e = tt
-    go (Some s) e = record { outcome = outcome; fault = fault; event = e; caused = record { keeper = causes.keeper; storage = causes.storage }; leads = leads }
+    go (Some s) e = record { outcome = outcome; fault = fault; event = e; caused = record { keeper = causes.keeper; storage = causes.storage }; stream = stream; leads = leads }
 
 -- the points of a push go on
-went-on : {T : Type 0} (begun push after : PushParts T) (p : Point) (points : List Point) → after.parcel ≡ push.parcel → CallAt push.parcel (place_at push.phase) p.event.call → place_at after.phase ≡ next push.parcel (place_at push.phase) p.event.outcome p.fault → Went begun push points → Went begun after (p ∷ points)
+went-on : {T : Type 0} (begun push after : PushParts T) (p : Point) (points : List Point) → after.parcel ≡ push.parcel → CallAt push.parcel (place_at push.phase) p.event.call → place_at after.phase ≡ next push.parcel (place_at push.phase) p.event.moment p.event.outcome p.fault → Went begun push points → Went begun after (p ∷ points)
 went-on begun push after p points same called leads went = record {
   same = same ∙ went.same;
   calls = subst (λ b. CallAt b (place_of b points) p.event.call × Calls b points) (sym same) (subst (λ at. CallAt push.parcel at p.event.call) went.at called, went.calls);
-  at = leads ∙ ap (λ at. next push.parcel at p.event.outcome p.fault) went.at ∙ ap (λ b. next b (place_of b points) p.event.outcome p.fault) (sym same);
+  at = leads ∙ ap (λ at. next push.parcel at p.event.moment p.event.outcome p.fault) went.at ∙ ap (λ b. next b (place_of b points) p.event.moment p.event.outcome p.fault) (sym same);
 }
 
-pub stepped : {T : Type 0} (state : Option State) (old new : View) (push after : PushParts T) → after.parcel ≡ push.parcel → IfSome state (λ s. CalledAt push.parcel s old new (place_at push.phase) after.phase) → IfSome state (λ s. Stepped s old new (λ begun points. Went begun push points) (λ begun points. Went begun after points))
-stepped None old new push after same called = tt
-stepped (Some s) old new push after same called = record {
+pub stepped : {T : Type 0} (Streams : Option Refusal → Type 0) (state : Option State) (old new : View) (push after : PushParts T) → after.parcel ≡ push.parcel → IfSome state (λ s. CalledAt Streams push.parcel s old new (place_at push.phase) after.phase) → IfSome state (λ s. Stepped Streams s old new (λ begun points. Went begun push points) (λ begun points. Went begun after points))
+stepped Streams None old new push after same called = tt
+stepped Streams (Some s) old new push after same called = record {
   call = called.call;
   outcome = called.one.outcome;
   fault = called.one.fault;
   event = called.one.event;
   caused = called.one.caused;
+  stream = called.one.stream;
   goes = λ begun points went. went-on begun push after (point_of old new _ called.call called.one.outcome called.one.fault) points same called.called called.one.leads went;
 }
 
@@ -75,65 +80,80 @@ earlier-none (Some stop) = refl
 right-stop : (b : Parcel) (upload : ℕ) → stop_in (staged b upload) ≡ unless_right b None
 right-stop b upload = elim (same_digest (digest_of b.bytes) b.digest) as (λ r. stop_in (cond r (Sealing upload) (Ending upload true (WrongDigest (digest_of b.bytes)))) ≡ cond r None (Some (WrongDigest (digest_of b.bytes)))) [ true ↦ refl | false ↦ refl ]
 
-begun-stop : (b : Parcel) (gave : Gave) → stop_in (next b Beginning (Ok gave) None) ≡ None
-begun-stop b (Tells (told.Begun upload)) = refl
-begun-stop b (Tells _) = refl
-begun-stop b _ = refl
+begun-stop : (b : Parcel) (t : ℕ) (gave : Gave) → stop_in (next b Beginning t (Ok gave) None) ≡ None
+begun-stop b t (Tells (told.Begun upload)) = refl
+begun-stop b t (Tells _) = refl
+begun-stop b t _ = refl
 
-begin-stop : (b : Parcel) (outcome : Outcome) (fault : Option Refusal) → stop_in (next b Beginning outcome fault) ≡ refused_by outcome fault
-begin-stop b (Err refusal) fault = refl
-begin-stop b (Ok gave) (Some refusal) = refl
-begin-stop b (Ok gave) None = begun-stop b gave
+begin-stop : (b : Parcel) (t : ℕ) (outcome : Outcome) (fault : Option Refusal) → stop_in (next b Beginning t outcome fault) ≡ refused_by t outcome fault
+begin-stop b t (Err refusal) fault = refl
+begin-stop b t (Ok gave) (Some refusal) = refl
+begin-stop b t (Ok gave) None = begun-stop b t gave
 
-stage-stop : (b : Parcel) (upload : ℕ) (outcome : Outcome) (fault : Option Refusal) → stop_in (next b (Staging upload) outcome fault) ≡ unless_right b (refused_by outcome fault)
-stage-stop b upload (Err refusal) fault = refl
-stage-stop b upload (Ok gave) (Some refusal) = refl
-stage-stop b upload (Ok gave) None = right-stop b upload
+stage-stop : (b : Parcel) (upload : ℕ) (t : ℕ) (outcome : Outcome) (fault : Option Refusal) → stop_in (next b (Staging upload) t outcome fault) ≡ unless_right b (refused_by t outcome fault)
+stage-stop b upload t (Err refusal) fault = refl
+stage-stop b upload t (Ok gave) (Some refusal) = refl
+stage-stop b upload t (Ok gave) None = right-stop b upload
 
-end-stop : (b : Parcel) (upload : ℕ) (held : Bool) (stop : Stop) (outcome : Outcome) (fault : Option Refusal) → stop_in (next b (Ending upload held stop) outcome fault) ≡ some_stop stop
-end-stop b upload true stop outcome fault = refl
-end-stop b upload false stop outcome fault = refl
+end-stop : (b : Parcel) (upload : ℕ) (held : Bool) (stop : Stop) (t : ℕ) (outcome : Outcome) (fault : Option Refusal) → stop_in (next b (Ending upload held stop) t outcome fault) ≡ some_stop stop
+end-stop b upload true stop t outcome fault = refl
+end-stop b upload false stop t outcome fault = refl
 
-seal-stops : (b : Parcel) (u : ℕ) (outcome : Outcome) (fault : Option Refusal) → stops_at b (Asked (seal_with u b)) outcome fault ≡ refused_by outcome None
-seal-stops b u outcome fault = go b.put
+seal-stops : (b : Parcel) (u : ℕ) (t : ℕ) (outcome : Outcome) (fault : Option Refusal) → stops_at b (Asked (seal_with u b)) t outcome fault ≡ refused_by t outcome None
+seal-stops b u t outcome fault = go b.put
   where
-    go : (put : Option PutAsk) → stops_at b (Asked (seal_by u b.digest (length b.bytes) put)) outcome fault ≡ refused_by outcome None
+    go : (put : Option PutAsk) → stops_at b (Asked (seal_by u b.digest (length b.bytes) put)) t outcome fault ≡ refused_by t outcome None
     go None = refl
     go (Some put) = refl
 
-settle-stops : (b : Parcel) (u : ℕ) (outcome : Outcome) (fault : Option Refusal) → stops_at b (Asked (settle_with u b)) outcome fault ≡ refused_by outcome None
-settle-stops b u outcome fault = go b.put
+settle-stops : (b : Parcel) (u : ℕ) (t : ℕ) (outcome : Outcome) (fault : Option Refusal) → stops_at b (Asked (settle_with u b)) t outcome fault ≡ refused_by t outcome None
+settle-stops b u t outcome fault = go b.put
   where
-    go : (put : Option PutAsk) → stops_at b (Asked (settle_by u b.name b.digest put)) outcome fault ≡ refused_by outcome None
+    go : (put : Option PutAsk) → stops_at b (Asked (settle_by u b.name b.digest put)) t outcome fault ≡ refused_by t outcome None
     go None = refl
     go (Some put) = refl
 
-next-stop : (b : Parcel) (at : Place) (call : Call) (outcome : Outcome) (fault : Option Refusal) → CallAt b at call → stop_in (next b at outcome fault) ≡ earlier (stop_in at) (stops_at b call outcome fault)
-next-stop b Beginning call outcome fault is = begin-stop b outcome fault ∙ ap (λ call. stops_at b call outcome fault) (sym is)
-next-stop b (Staging u) call outcome fault is = stage-stop b u outcome fault ∙ ap (λ call. stops_at b call outcome fault) (sym is)
-next-stop b (Sealing u) call (Ok gave) fault is = sym (seal-stops b u (Ok gave) fault) ∙ ap (λ call. stops_at b call (Ok gave) fault) (sym is)
-next-stop b (Sealing u) call (Err refusal) fault is = sym (seal-stops b u (Err refusal) fault) ∙ ap (λ call. stops_at b call (Err refusal) fault) (sym is)
-next-stop b (Placing u) call (Ok gave) fault is = ap (λ call. stops_at b call (Ok gave) fault) (sym is)
-next-stop b (Placing u) call (Err refusal) fault is = ap (λ call. stops_at b call (Err refusal) fault) (sym is)
-next-stop b (Settling u) call (Ok gave) fault is = sym (settle-stops b u (Ok gave) fault) ∙ ap (λ call. stops_at b call (Ok gave) fault) (sym is)
-next-stop b (Settling u) call (Err refusal) fault is = sym (settle-stops b u (Err refusal) fault) ∙ ap (λ call. stops_at b call (Err refusal) fault) (sym is)
-next-stop b (Ending u held stop) call outcome fault is = end-stop b u held stop outcome fault ∙ sym (earlier-none (some_stop stop)) ∙ ap (λ call. earlier (some_stop stop) (stops_at b call outcome fault)) (sym is)
-next-stop b (Dropping u stop) call outcome fault is = sym (earlier-none (some_stop stop)) ∙ ap (λ call. earlier (some_stop stop) (stops_at b call outcome fault)) (sym is)
-next-stop b (Stopped stop) call outcome fault is = absurd is
+next-stop : (b : Parcel) (at : Place) (call : Call) (t : ℕ) (outcome : Outcome) (fault : Option Refusal) → CallAt b at call → stop_in (next b at t outcome fault) ≡ earlier (stop_in at) (stops_at b call t outcome fault)
+next-stop b Beginning call t outcome fault is = begin-stop b t outcome fault ∙ ap (λ call. stops_at b call t outcome fault) (sym is)
+next-stop b (Staging u) call t outcome fault is = stage-stop b u t outcome fault ∙ ap (λ call. stops_at b call t outcome fault) (sym is)
+next-stop b (Sealing u) call t (Ok gave) fault is = sym (seal-stops b u t (Ok gave) fault) ∙ ap (λ call. stops_at b call t (Ok gave) fault) (sym is)
+next-stop b (Sealing u) call t (Err refusal) fault is = sym (seal-stops b u t (Err refusal) fault) ∙ ap (λ call. stops_at b call t (Err refusal) fault) (sym is)
+next-stop b (Placing u) call t (Ok gave) fault is = ap (λ call. stops_at b call t (Ok gave) fault) (sym is)
+next-stop b (Placing u) call t (Err refusal) fault is = ap (λ call. stops_at b call t (Err refusal) fault) (sym is)
+next-stop b (Settling u) call t (Ok gave) fault is = sym (settle-stops b u t (Ok gave) fault) ∙ ap (λ call. stops_at b call t (Ok gave) fault) (sym is)
+next-stop b (Settling u) call t (Err refusal) fault is = sym (settle-stops b u t (Err refusal) fault) ∙ ap (λ call. stops_at b call t (Err refusal) fault) (sym is)
+next-stop b (Ending u held stop) call t outcome fault is = end-stop b u held stop t outcome fault ∙ sym (earlier-none (some_stop stop)) ∙ ap (λ call. earlier (some_stop stop) (stops_at b call t outcome fault)) (sym is)
+next-stop b (Dropping u stop) call t outcome fault is = sym (earlier-none (some_stop stop)) ∙ ap (λ call. earlier (some_stop stop) (stops_at b call t outcome fault)) (sym is)
+next-stop b (Stopped stop) call t outcome fault is = absurd is
 
 points-stop : (b : Parcel) (points : List Point) → Calls b points → stop_in (place_of b points) ≡ first_stop b points
 points-stop b [] calls = refl
-points-stop b (p ∷ points) calls = next-stop b (place_of b points) p.event.call p.event.outcome p.fault calls.0 ∙ ap (λ stop. earlier stop (stops_at b p.event.call p.event.outcome p.fault)) (points-stop b points calls.1)
+points-stop b (p ∷ points) calls = next-stop b (place_of b points) p.event.call p.event.moment p.event.outcome p.fault calls.0 ∙ ap (λ stop. earlier stop (stops_at b p.event.call p.event.moment p.event.outcome p.fault)) (points-stop b points calls.1)
 
 pushed-or : (stop : Stop) → or_pushed (some_stop stop) ≡ stop
 pushed-or Pushed = refl
 pushed-or (WrongDigest found) = refl
-pushed-or (Refused refusal) = refl
+pushed-or (Refused refusal t) = refl
 
 -- how a push ended is what its points decide
 pub ended-decided : {T : Type 0} (begun push : PushParts T) (stop : Stop) (points : List Point) → push.phase ≡ phase.Ended stop → Went begun push points → stop ≡ decided push.parcel points
 ended-decided {T = T} begun push stop points is went =
     sym (pushed-or stop) ∙ ap or_pushed (sym (ap (λ (p : Phase T). stop_in (place_at p)) is) ∙ ap stop_in went.at ∙ points-stop push.parcel points went.calls)
+
+-- ---- a call on a stage that was refused
+pub stage-fault : {T : Type 0} (faults : T → ℕ) (old new : T) (fault : StoreFault) (refusal : Refusal) → (fault ≡ store.Failed → refusal ≡ Storage) → (fault ≡ store.Memory → refusal ≡ Memory) → StoreCause {T = Unit {0}} (faults old) (faults new) (Err fault) → IsStageFault T faults (Some refusal)
+stage-fault faults old new store.Failed refusal storage memory cause = inr (storage refl, (old, new, cause.failed refl))
+stage-fault faults old new store.Memory refusal storage memory cause = inl (memory refl)
+
+-- a desk's streams are its stages and its readers
+pub stage-stream : {Stage Reader : Type 0} (stage_faults : Stage → ℕ) (reader_faults : Reader → ℕ) (fault : Option Refusal) → IsStageFault Stage stage_faults fault → IsStreamFault Stage Reader stage_faults reader_faults fault
+stage-stream stage_faults reader_faults None h = tt
+stage-stream stage_faults reader_faults (Some refusal) (inl memory) = inl memory
+stage-stream stage_faults reader_faults (Some refusal) (inr (storage, rose)) = inr (storage, inl rose)
+
+-- the push goes on so by the event that gave the stage
+pub stage-leads : {T : Type 0} (b : Parcel) (upload offset moment t : ℕ) (outcome : Outcome) (fault : Option Refusal) (p : Phase T) → moment ≡ t → Ok (StageAt offset) ≡ outcome → place_at p ≡ next b (Staging upload) moment (Ok (StageAt offset)) fault → place_at p ≡ next b (Staging upload) t outcome fault
+stage-leads b upload offset moment t outcome fault p is gave leads = leads ∙ ap (λ t. next b (Staging upload) t (Ok (StageAt offset)) fault) is ∙ ap (λ r. next b (Staging upload) t r fault) gave
 
 -- ---- a stage that has the bytes
 appended : (old new : Option (List ℕ)) (piece : List ℕ) (offset : ℕ) → offset ≡ 0 → IsSomeAnd old (λ x. length x ≡ offset) → Appends {T = Unit {0}} old new piece (Ok tt) → new ≡ Some piece
@@ -145,8 +165,8 @@ appended (Some x) new piece offset none there appends = appends ∙ ap (λ x. So
     empty (a ∷ x) is = absurd (omega (arith, is))
 
 module _ {T : Type 0} (b : Parcel) (upload : ℕ) (stage : T) (found : Digest) (p : Phase T) (found_is : found ≡ digest_of b.bytes) (right : same_digest found b.digest ≡ true → p ≡ phase.Seal upload stage) (wrong : same_digest found b.digest ≡ false → p ≡ phase.End upload (Some stage) (WrongDigest found)) where
-  pub staged-leads : (offset : ℕ) → place_at p ≡ next b (Staging upload) (Ok (StageAt offset)) None
-  staged-leads offset =
+  pub staged-leads : (offset t : ℕ) → place_at p ≡ next b (Staging upload) t (Ok (StageAt offset)) None
+  staged-leads offset t =
       elim (same_digest found b.digest) as (λ r. same_digest found b.digest ≡ r → place_at p ≡ staged b upload) [
         | true ↦ λ e. ap (λ p. place_at p) (right e) ∙ ap (λ r. cond r (Sealing upload) (Ending upload true (WrongDigest (digest_of b.bytes)))) (sym (ap (λ d. same_digest d b.digest) (sym found_is) ∙ e))
         | false ↦ λ e. ap (λ p. place_at p) (wrong e) ∙ ap (λ d. Ending upload true (WrongDigest d)) found_is ∙ ap (λ r. cond r (Sealing upload) (Ending upload true (WrongDigest (digest_of b.bytes)))) (sym (ap (λ d. same_digest d b.digest) (sym found_is) ∙ e))
@@ -167,9 +187,9 @@ pub bytes-appended : (told : Bool) (old new : Option (List ℕ)) (piece : List �
 bytes-appended told old new piece offset none there appends h = appended old new piece offset none (there h) appends
 
 -- ---- one event by the phase
-pub called : {T : Type 0} (b : Parcel) (state : Option State) (old new : View) (call : Call) (at here : Place) (p : Phase T) → at ≡ here → CallAt b here call → IfSome state (λ s. OneEvent b s old new call here p) → IfSome state (λ s. CalledAt b s old new at p)
-called b None old new call at here p is made event = tt
-called b (Some s) old new call at here p is made event = record { call = call; called = subst (λ at. CallAt b at call) (sym is) made; one = subst (λ at. OneEvent b s old new call at p) (sym is) event }
+pub called : {T : Type 0} (Streams : Option Refusal → Type 0) (b : Parcel) (state : Option State) (old new : View) (call : Call) (at here : Place) (p : Phase T) → at ≡ here → CallAt b here call → IfSome state (λ s. OneEvent Streams b s old new call here p) → IfSome state (λ s. CalledAt Streams b s old new at p)
+called Streams b None old new call at here p is made event = tt
+called Streams b (Some s) old new call at here p is made event = record { call = call; called = subst (λ at. CallAt b at call) (sym is) made; one = subst (λ at. OneEvent Streams b s old new call at p) (sym is) event }
 
 pub ending-at : {T : Type 0} (upload : ℕ) (stage : Option T) (stop : Stop) → place_at (phase.End upload stage stop) ≡ Ending upload (is_some stage) stop
 ending-at upload (Some stage) stop = refl

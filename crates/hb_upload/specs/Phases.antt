@@ -1,7 +1,8 @@
 -- A push as it goes: where its phase is, what it rests on at the desk, and what one event makes of it.
-use Rattle.std.specs.Prelude.{◌≡◌, ℕ, Bool, true, false, List, length, Option, Some, None, Ok, IsSomeAnd}
+use Rattle.std.specs.Prelude.{◌≡◌, ◌⊎◌, ℕ, Bool, true, false, List, length, Option, Some, None, Ok, IfSome, IsSomeAnd}
 use Rattle.hb_text.specs.declared.digests.Digest.{Digest}
 use Rattle.hb_text.specs.Digests.{digest_of}
+use Rattle.hb_store.specs.Causes.{SomeRose}
 use Rattle.hb_desk.specs.Calls.{Call, Outcome, StageAt}
 use Rattle.hb_desk.specs.Clause.{EventFrom, View}
 use Rattle.hb_desk.specs.Events.{after}
@@ -9,6 +10,7 @@ use Rattle.hb_desk.specs.Notes.{sealed_at}
 use Rattle.hb_desk.specs.Points.{IsCaused, point_of}
 use Rattle.hb_desk.specs.State.{State}
 use Rattle.hb_desk.specs.declared.refusals.Refusal.{Refusal}
+use Rattle.hb_desk.specs.declared.refusals.Refusal.TheVariants.{Memory, Storage}
 use Rattle.hb_upload.specs.Places.{Parcel, CallAt, Place, Beginning, Staging, Sealing, Placing, Settling, Ending, Dropping, Stopped, next}
 use Rattle.hb_upload.specs.declared.phase.Phase.{Phase}
 use Rattle.hb_upload.specs.declared.phase.Phase.TheVariants as phase
@@ -53,21 +55,27 @@ PhaseFits upload_of size_of bytes_of digest bytes (phase.End u (Some s) stop) v 
 PhaseFits upload_of size_of bytes_of digest bytes (phase.Drop u s stop) v = upload_of s ≡ u
 PhaseFits upload_of size_of bytes_of digest bytes p v = Unit {0}
 
--- one event from a place of a push to the next
-pub record OneEvent {T : Type 0} (b : Parcel) (before : State) (old new : View) (call : Call) (at : Place) (p : Phase T) : Type 0 where
+-- What a call on a stage is refused for: want of memory, or the storage's fault, where the stage's count of faults rose.
+abbrev pub IsStageFault : (Stage : Type 0) → (Stage → ℕ) → Option Refusal → Type 0
+IsStageFault Stage faults fault = IfSome fault (λ refusal. (refusal ≡ Memory) ⊎ ((refusal ≡ Storage) × SomeRose Stage faults))
+
+-- One event from a place of a push to the next. Streams says what a call on the stage that it gave may be refused for.
+pub record OneEvent {T : Type 0} (Streams : Option Refusal → Type 0) (b : Parcel) (before : State) (old new : View) (call : Call) (at : Place) (p : Phase T) : Type 0 where
   pub outcome : Outcome
   pub fault : Option Refusal
   pub event : EventFrom before old new call outcome
   pub caused : IsCaused (point_of old new (after event.others before) call outcome fault)
-  pub leads : place_at p ≡ next b at outcome fault
+  pub stream : Streams fault
+  pub leads : place_at p ≡ next b at new.moment outcome fault
 
--- where a push goes on behind a stage that was taken: by what the calls on it were refused by, if they were
-pub record GoesOn {T : Type 0} (b : Parcel) (upload offset : ℕ) (p : Phase T) : Type 0 where
+-- where a push goes on behind a stage that was taken at this moment: by what the calls on it were refused for, if they were
+pub record GoesOn {T : Type 0} (Streams : Option Refusal → Type 0) (b : Parcel) (upload offset moment : ℕ) (p : Phase T) : Type 0 where
   pub fault : Option Refusal
-  pub leads : place_at p ≡ next b (Staging upload) (Ok (StageAt offset)) fault
+  pub stream : Streams fault
+  pub leads : place_at p ≡ next b (Staging upload) moment (Ok (StageAt offset)) fault
 
 -- one event by the call that a push makes there
-pub record CalledAt {T : Type 0} (b : Parcel) (before : State) (old new : View) (at : Place) (p : Phase T) : Type 0 where
+pub record CalledAt {T : Type 0} (Streams : Option Refusal → Type 0) (b : Parcel) (before : State) (old new : View) (at : Place) (p : Phase T) : Type 0 where
   pub call : Call
   pub called : CallAt b at call
-  pub one : OneEvent b before old new call at p
+  pub one : OneEvent Streams b before old new call at p

@@ -52,29 +52,29 @@ pub data Place : Type 0 where
 abbrev pub staged : Parcel → ℕ → Place
 staged b upload = if same_digest (digest_of b.bytes) b.digest then Sealing upload else Ending upload true (WrongDigest (digest_of b.bytes))
 
--- Where it goes on, by what an event answered and by the refusal of a call on what the event gave.
-abbrev pub next : Parcel → Place → Outcome → Option Refusal → Place
-next b Beginning (Err refusal) fault = Stopped (Refused refusal)
-next b Beginning (Ok gave) (Some refusal) = Stopped (Refused refusal)
-next b Beginning (Ok (Tells (Begun upload))) None = Staging upload
-next b Beginning (Ok gave) None = Beginning
-next b (Staging upload) (Err refusal) fault = Ending upload false (Refused refusal)
-next b (Staging upload) (Ok gave) (Some refusal) = Ending upload true (Refused refusal)
-next b (Staging upload) (Ok gave) None = staged b upload
-next b (Sealing upload) (Ok gave) fault = Placing upload
-next b (Sealing upload) (Err refusal) fault = Ending upload true (Refused refusal)
-next b (Placing upload) (Ok gave) fault = Settling upload
-next b (Placing upload) (Err refusal) fault = Stopped (Refused refusal)
-next b (Settling upload) (Ok gave) fault = Stopped Pushed
-next b (Settling upload) (Err refusal) fault = Stopped (Refused refusal)
-next b (Ending upload true stop) outcome fault = Dropping upload stop
-next b (Ending upload false stop) outcome fault = Stopped stop
-next b (Dropping upload stop) outcome fault = Stopped stop
-next b (Stopped stop) outcome fault = Stopped stop
+-- Where it goes on, by the moment of an event, by what that answered, and by the refusal of a call on what it gave.
+abbrev pub next : Parcel → Place → ℕ → Outcome → Option Refusal → Place
+next b Beginning t (Err refusal) fault = Stopped (Refused refusal t)
+next b Beginning t (Ok gave) (Some refusal) = Stopped (Refused refusal t)
+next b Beginning t (Ok (Tells (Begun upload))) None = Staging upload
+next b Beginning t (Ok gave) None = Beginning
+next b (Staging upload) t (Err refusal) fault = Ending upload false (Refused refusal t)
+next b (Staging upload) t (Ok gave) (Some refusal) = Ending upload true (Refused refusal t)
+next b (Staging upload) t (Ok gave) None = staged b upload
+next b (Sealing upload) t (Ok gave) fault = Placing upload
+next b (Sealing upload) t (Err refusal) fault = Ending upload true (Refused refusal t)
+next b (Placing upload) t (Ok gave) fault = Settling upload
+next b (Placing upload) t (Err refusal) fault = Stopped (Refused refusal t)
+next b (Settling upload) t (Ok gave) fault = Stopped Pushed
+next b (Settling upload) t (Err refusal) fault = Stopped (Refused refusal t)
+next b (Ending upload true stop) t outcome fault = Dropping upload stop
+next b (Ending upload false stop) t outcome fault = Stopped stop
+next b (Dropping upload stop) t outcome fault = Stopped stop
+next b (Stopped stop) t outcome fault = Stopped stop
 
 abbrev pub place_of : Parcel → List Point → Place
 place_of b [] = Beginning
-place_of b (p ∷ points) = next b (place_of b points) p.event.outcome p.fault
+place_of b (p ∷ points) = next b (place_of b points) p.event.moment p.event.outcome p.fault
 
 -- the call that a push makes there
 abbrev pub CallAt : Parcel → Place → Call → Type 0

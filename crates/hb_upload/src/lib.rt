@@ -8,6 +8,8 @@
 mod phase;
 mod push;
 mod steps;
+#[cfg(test)]
+mod tests;
 
 pub use phase::Stop;
 pub use push::Push;

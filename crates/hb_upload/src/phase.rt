@@ -17,8 +17,9 @@ pub enum Stop {
     Pushed,
     /// The bytes have this digest, and not the one that was announced.
     WrongDigest { found: Digest },
-    /// An event of it was refused, or a call on its stage.
-    Refused(Refusal),
+    /// An event of it was refused, or a call on its stage. The moment, in seconds since 1970-01-01T00:00:00Z, is that
+    /// of the event, or of the one that gave the stage.
+    Refused { refusal: Refusal, moment: u64 },
 }
 
 // Where a push is, with its stage where it holds one.

@@ -1,7 +1,7 @@
 //! A push, as an operation.
 ghost use Rattle.std.specs.Prelude.{◌≡◌, ◌<◌, ◌↔◌, ℕ, List, [], true, false, length, IfOk, IfSome, IsSome, Some, None};
 ghost use Rattle.std.specs.Option.{option_copied};
-ghost use Rattle.hb_desk.specs.Points.{Moves, Point};
+ghost use Rattle.hb_desk.specs.Points.{IsStreamFault, Moves, Point};
 ghost use Rattle.hb_desk.specs.declared.asks.Ask.{Ask as Asking};
 ghost use Rattle.hb_upload.specs.Deciding.{decided};
 ghost use Rattle.hb_upload.specs.declared.phase.Phase.TheVariants as phase;
@@ -147,7 +147,7 @@ fn next<D: Desk>(
     requires ready { IsReady given.now begin.now seal.old settle.old }
     requires going { is_ended phase ≡ false }
     requires fits { PhaseFits D.Stage.upload D.Stage.size D.Stage.bytes given.now.digest given.now.bytes phase (D.view desk.old) }
-    ensures event { IfSome (D.view desk.old).state (λ s. CalledAt (parcel_of given.now seal.old) s (D.view desk.old) (D.view desk.new) (place_at phase) result) }
+    ensures event { IfSome (D.view desk.old).state (λ s. CalledAt (IsStreamFault D.Stage D.Reader D.Stage.faults D.Reader.faults) (parcel_of given.now seal.old) s (D.view desk.old) (D.view desk.new) (place_at phase) result) }
     ensures moves { Moves (D.view desk.old) (D.view desk.new) }
     ensures fits { PhaseFits D.Stage.upload D.Stage.size D.Stage.bytes given.now.digest given.now.bytes result (D.view desk.new) }
     ensures falls { left_of result < left_of phase }

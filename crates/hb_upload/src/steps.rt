@@ -8,9 +8,9 @@ ghost use Rattle.hb_desk.specs.Notes.{sealed_at};
 ghost use Rattle.hb_desk.specs.Noting.{seal_of};
 ghost use Rattle.hb_desk.specs.declared.asks.Ask.{Ask as Asking};
 ghost use Rattle.hb_text.specs.declared.digests.Digest.{Digest as AnyDigest};
-ghost use Rattle.hb_desk.specs.Points.{Moves};
+ghost use Rattle.hb_desk.specs.Points.{IsStreamFault, Moves};
 ghost use Rattle.hb_desk.specs.declared.asks.Ask.TheVariants.{BeginUpload, EndUpload};
-ghost use Rattle.hb_upload.specs.Phases.{GoesOn, HasBytes, OneEvent, PhaseFits, left_of};
+ghost use Rattle.hb_upload.specs.Phases.{GoesOn, HasBytes, IsStageFault, OneEvent, PhaseFits, left_of};
 ghost use Rattle.hb_upload.specs.Places.{Parcel, seal_with, settle_with, Beginning, Staging, Sealing, Placing, Settling, Ending, Dropping};
 ghost use Rattle.hb_upload.specs.Pushes.{parcel_of};
 ghost use Rattle.hb_upload.specs.declared.phase.Phase.TheVariants as phase;
@@ -19,12 +19,12 @@ ghost use Rattle.hb_upload.specs.declared.phase.Stop.TheVariants as stop;
 
 use crate::phase::{Given, Phase, Stop};
 use hb_desk::{Ask, Desk, Refusal, Staged, Told};
-use hb_store::{Stage, StoreFault};
+use hb_store::Stage;
 use hb_text::Digest;
 
 /// The upload begins.
 pub(crate) fn begin_step<D: Desk>(desk: &mut D, ask: &Ask, now: u64) -> Phase<D::Stage>
-    ensures event { (b : Parcel) → ask.now ≡ BeginUpload b.name → IfSome (D.view desk.old).state (λ s. OneEvent b s (D.view desk.old) (D.view desk.new) (Asked (BeginUpload b.name)) Beginning result) }
+    ensures event { (b : Parcel) → ask.now ≡ BeginUpload b.name → IfSome (D.view desk.old).state (λ s. OneEvent (IsStreamFault D.Stage D.Reader D.Stage.faults D.Reader.faults) b s (D.view desk.old) (D.view desk.new) (Asked (BeginUpload b.name)) Beginning result) }
     ensures moves { Moves (D.view desk.old) (D.view desk.new) }
     ensures fits { (digest : AnyDigest) (bytes : List ℕ) → PhaseFits D.Stage.upload D.Stage.size D.Stage.bytes digest bytes result (D.view desk.new) }
     ensures falls { left_of result < 7 }
@@ -32,18 +32,17 @@ pub(crate) fn begin_step<D: Desk>(desk: &mut D, ask: &Ask, now: u64) -> Phase<D:
     match desk.ask(ask, now) {
         Ok(Told::Begun { upload }) => Phase::Stage { upload },
         Ok(_) => Phase::Ended {
-            stop: Stop::Refused(Refusal::Memory),
+            stop: Stop::Refused {
+                refusal: Refusal::Memory,
+                moment: desk.moment(),
+            },
         },
         Err(refusal) => Phase::Ended {
-            stop: Stop::Refused(refusal),
+            stop: Stop::Refused {
+                refusal,
+                moment: desk.moment(),
+            },
         },
-    }
-}
-
-fn fault_of(fault: StoreFault) -> Refusal {
-    match fault {
-        StoreFault::Failed => Refusal::Storage,
-        StoreFault::Memory => Refusal::Memory,
     }
 }
 
@@ -63,12 +62,12 @@ fn staged<T>(upload: u64, stage: T, digest: &Digest, found: &Digest) -> Phase<T>
     }
 }
 
-// Appends the bytes to the stage. A call on the stage that is refused ends the push.
-fn filled<T: Stage>(taken: Staged<T>, given: &Given, upload: u64) -> Phase<T>
+// Appends the bytes to the stage, which was given at this moment. A call on the stage that is refused ends the push.
+fn filled<T: Stage>(taken: Staged<T>, given: &Given, upload: u64, moment: u64) -> Phase<T>
     requires found { given.now.found ≡ digest_of given.now.bytes }
     requires upload { T.upload taken.stage ≡ upload }
     requires size { T.size taken.stage ≡ taken.offset }
-    ensures leads { (seal : Asking) → GoesOn (parcel_of given.now seal) upload taken.offset result }
+    ensures leads { (seal : Asking) → GoesOn (IsStageFault T T.faults) (parcel_of given.now seal) upload taken.offset moment result }
     ensures fits { (v : View) → (v.told_bytes ≡ true → IsSomeAnd (T.bytes taken.stage) (λ x. length x ≡ taken.offset)) → PhaseFits T.upload T.size T.bytes given.now.digest given.now.bytes result v }
     ensures falls { left_of result < 6 }
 {
@@ -77,7 +76,10 @@ fn filled<T: Stage>(taken: Staged<T>, given: &Given, upload: u64) -> Phase<T>
         return Phase::End {
             upload,
             stage: Some(stage),
-            stop: Stop::Refused(Refusal::Memory),
+            stop: Stop::Refused {
+                refusal: Refusal::Memory,
+                moment,
+            },
         };
     }
     match stage.append(given.bytes.bytes()) {
@@ -85,7 +87,10 @@ fn filled<T: Stage>(taken: Staged<T>, given: &Given, upload: u64) -> Phase<T>
         Err(fault) => Phase::End {
             upload,
             stage: Some(stage),
-            stop: Stop::Refused(fault_of(fault)),
+            stop: Stop::Refused {
+                refusal: Refusal::from(fault),
+                moment,
+            },
         },
     }
 }
@@ -98,17 +103,19 @@ pub(crate) fn stage_step<D: Desk>(
     now: u64,
 ) -> Phase<D::Stage>
     requires { given.now.found ≡ digest_of given.now.bytes }
-    ensures event { (seal : Asking) → IfSome (D.view desk.old).state (λ s. OneEvent (parcel_of given.now seal) s (D.view desk.old) (D.view desk.new) (StageTaken given.now.name upload None) (Staging upload) result) }
+    ensures event { (seal : Asking) → IfSome (D.view desk.old).state (λ s. OneEvent (IsStreamFault D.Stage D.Reader D.Stage.faults D.Reader.faults) (parcel_of given.now seal) s (D.view desk.old) (D.view desk.new) (StageTaken given.now.name upload None) (Staging upload) result) }
     ensures moves { Moves (D.view desk.old) (D.view desk.new) }
     ensures fits { PhaseFits D.Stage.upload D.Stage.size D.Stage.bytes given.now.digest given.now.bytes result (D.view desk.new) }
     ensures falls { left_of result < 6 }
 {
-    match desk.stage(&given.name, upload, None, now) {
-        Ok(taken) => filled(taken, given, upload),
+    let taken = desk.stage(&given.name, upload, None, now);
+    let moment = desk.moment();
+    match taken {
+        Ok(taken) => filled(taken, given, upload, moment),
         Err(refusal) => Phase::End {
             upload,
             stage: None,
-            stop: Stop::Refused(refusal),
+            stop: Stop::Refused { refusal, moment },
         },
     }
 }
@@ -124,7 +131,7 @@ pub(crate) fn seal_step<D: Desk>(
 ) -> Phase<D::Stage>
     requires seals { seal_of ask.now ≡ Some (record { upload = upload; digest = given.now.digest; size = length given.now.bytes }) }
     requires stage { HasBytes D.Stage.upload D.Stage.size D.Stage.bytes given.now.digest given.now.bytes upload stage (D.view desk.old) }
-    ensures event { (b : Parcel) → ask.now ≡ seal_with upload b → IfSome (D.view desk.old).state (λ s. OneEvent b s (D.view desk.old) (D.view desk.new) (Asked (seal_with upload b)) (Sealing upload) result) }
+    ensures event { (b : Parcel) → ask.now ≡ seal_with upload b → IfSome (D.view desk.old).state (λ s. OneEvent (IsStreamFault D.Stage D.Reader D.Stage.faults D.Reader.faults) b s (D.view desk.old) (D.view desk.new) (Asked (seal_with upload b)) (Sealing upload) result) }
     ensures moves { Moves (D.view desk.old) (D.view desk.new) }
     ensures fits { PhaseFits D.Stage.upload D.Stage.size D.Stage.bytes given.now.digest given.now.bytes result (D.view desk.new) }
     ensures falls { left_of result < 5 }
@@ -134,7 +141,10 @@ pub(crate) fn seal_step<D: Desk>(
         Err(refusal) => Phase::End {
             upload,
             stage: Some(stage),
-            stop: Stop::Refused(refusal),
+            stop: Stop::Refused {
+                refusal,
+                moment: desk.moment(),
+            },
         },
     }
 }
@@ -149,7 +159,7 @@ pub(crate) fn place_step<D: Desk>(
 ) -> Phase<D::Stage>
     requires stage { HasBytes D.Stage.upload D.Stage.size D.Stage.bytes given.now.digest given.now.bytes upload stage (D.view desk.old) }
     requires own { sealed_at upload (D.view desk.old).sealed ≡ Some (record { upload = upload; digest = given.now.digest; size = length given.now.bytes }) }
-    ensures event { (seal : Asking) → IfSome (D.view desk.old).state (λ s. OneEvent (parcel_of given.now seal) s (D.view desk.old) (D.view desk.new) (StagePlaced upload given.now.digest) (Placing upload) result) }
+    ensures event { (seal : Asking) → IfSome (D.view desk.old).state (λ s. OneEvent (IsStreamFault D.Stage D.Reader D.Stage.faults D.Reader.faults) (parcel_of given.now seal) s (D.view desk.old) (D.view desk.new) (StagePlaced upload given.now.digest) (Placing upload) result) }
     ensures moves { Moves (D.view desk.old) (D.view desk.new) }
     ensures fits { PhaseFits D.Stage.upload D.Stage.size D.Stage.bytes given.now.digest given.now.bytes result (D.view desk.new) }
     ensures falls { left_of result < 4 }
@@ -157,14 +167,17 @@ pub(crate) fn place_step<D: Desk>(
     match desk.place(upload, stage, &given.digest, now) {
         Ok(_) => Phase::Settle { upload },
         Err(refusal) => Phase::Ended {
-            stop: Stop::Refused(refusal),
+            stop: Stop::Refused {
+                refusal,
+                moment: desk.moment(),
+            },
         },
     }
 }
 
 /// The project gets what was placed.
 pub(crate) fn settle_step<D: Desk>(desk: &mut D, ask: &Ask, now: u64) -> Phase<D::Stage>
-    ensures event { (b : Parcel) (upload : ℕ) → ask.now ≡ settle_with upload b → IfSome (D.view desk.old).state (λ s. OneEvent b s (D.view desk.old) (D.view desk.new) (Asked (settle_with upload b)) (Settling upload) result) }
+    ensures event { (b : Parcel) (upload : ℕ) → ask.now ≡ settle_with upload b → IfSome (D.view desk.old).state (λ s. OneEvent (IsStreamFault D.Stage D.Reader D.Stage.faults D.Reader.faults) b s (D.view desk.old) (D.view desk.new) (Asked (settle_with upload b)) (Settling upload) result) }
     ensures moves { Moves (D.view desk.old) (D.view desk.new) }
     ensures fits { (digest : AnyDigest) (bytes : List ℕ) → PhaseFits D.Stage.upload D.Stage.size D.Stage.bytes digest bytes result (D.view desk.new) }
     ensures falls { left_of result < 3 }
@@ -172,7 +185,10 @@ pub(crate) fn settle_step<D: Desk>(desk: &mut D, ask: &Ask, now: u64) -> Phase<D
     match desk.ask(ask, now) {
         Ok(_) => Phase::Ended { stop: Stop::Pushed },
         Err(refusal) => Phase::Ended {
-            stop: Stop::Refused(refusal),
+            stop: Stop::Refused {
+                refusal,
+                moment: desk.moment(),
+            },
         },
     }
 }
@@ -186,7 +202,7 @@ pub(crate) fn end_step<D: Desk>(
     now: u64,
 ) -> Phase<D::Stage>
     requires { IfSome stage (λ s. D.Stage.upload s ≡ upload) }
-    ensures event { (b : Parcel) → IfSome (D.view desk.old).state (λ s. OneEvent b s (D.view desk.old) (D.view desk.new) (Asked (EndUpload 0 upload)) (Ending upload (is_some stage) stop) result) }
+    ensures event { (b : Parcel) → IfSome (D.view desk.old).state (λ s. OneEvent (IsStreamFault D.Stage D.Reader D.Stage.faults D.Reader.faults) b s (D.view desk.old) (D.view desk.new) (Asked (EndUpload 0 upload)) (Ending upload (is_some stage) stop) result) }
     ensures moves { Moves (D.view desk.old) (D.view desk.new) }
     ensures fits { (digest : AnyDigest) (bytes : List ℕ) → PhaseFits D.Stage.upload D.Stage.size D.Stage.bytes digest bytes result (D.view desk.new) }
     ensures falls { left_of result < 2 }
@@ -211,7 +227,7 @@ pub(crate) fn drop_step<D: Desk>(
     now: u64,
 ) -> Phase<D::Stage>
     requires { D.Stage.upload stage ≡ upload }
-    ensures event { (b : Parcel) → IfSome (D.view desk.old).state (λ s. OneEvent b s (D.view desk.old) (D.view desk.new) (StageDropped upload true) (Dropping upload stop) result) }
+    ensures event { (b : Parcel) → IfSome (D.view desk.old).state (λ s. OneEvent (IsStreamFault D.Stage D.Reader D.Stage.faults D.Reader.faults) b s (D.view desk.old) (D.view desk.new) (StageDropped upload true) (Dropping upload stop) result) }
     ensures moves { Moves (D.view desk.old) (D.view desk.new) }
     ensures fits { (digest : AnyDigest) (bytes : List ℕ) → PhaseFits D.Stage.upload D.Stage.size D.Stage.bytes digest bytes result (D.view desk.new) }
     ensures falls { left_of result < 1 }

@@ -1,18 +1,18 @@
-use Rattle.std.proofs.Common.{None, Some, refl, length, ap, ◌∙◌, arith}
+use Rattle.std.proofs.Common.{None, Some, inl, refl, length, ap, ◌∙◌, arith}
 use Rattle.hb_desk.specs.declared.refusals.Refusal.TheVariants.{Memory}
 use Rattle.hb_desk.specs.declared.asks.Ask.TheVariants.{EndUpload}
 use Rattle.hb_upload.specs.Pushes.{parcel_of}
-use Rattle.hb_upload.proofs.Leads.{bytes-appended, staged-fits, staged-leads}
+use Rattle.hb_upload.proofs.Leads.{bytes-appended, stage-fault, staged-fits, staged-leads}
 use Rattle.hb_upload.proofs.steps.filled.Goals as goal
 
 pub returns-then-taken-ne0-clause-leads : goal.returns-then-taken-ne0-clause-leads
-returns-then-taken-ne0-clause-leads g c = λ seal. record { fault = Some Memory; leads = refl }
+returns-then-taken-ne0-clause-leads g c = λ seal. record { fault = Some Memory; stream = inl refl; leads = refl }
 
 pub returns-in-Err-clause-leads : goal.returns-in-Err-clause-leads
-returns-in-Err-clause-leads g c = λ seal. record { fault = Some c.fault_of.result; leads = refl }
+returns-in-Err-clause-leads g c = λ seal. record { fault = Some c.from.result; stream = stage-fault g.T.Stage.faults c.args.taken.stage c.append.new.self c.in-Err.fault c.from.result c.from.ensures.0 c.from.ensures.1 c.in-Err.ensures.cause; leads = refl }
 
 pub returns-in-Ok-clause-leads : goal.returns-in-Ok-clause-leads
-returns-in-Ok-clause-leads g c = λ seal. record { fault = None; leads = staged-leads (parcel_of c.args.given.now seal) c.args.upload c.append.new.self c.args.given.now.found c.staged.result c.requires.found c.staged.ensures.right c.staged.ensures.wrong c.args.taken.offset }
+returns-in-Ok-clause-leads g c = λ seal. record { fault = None; stream = tt; leads = staged-leads (parcel_of c.args.given.now seal) c.args.upload c.append.new.self c.args.given.now.found c.staged.result c.requires.found c.staged.ensures.right c.staged.ensures.wrong c.args.taken.offset c.args.moment }
 
 pub returns-in-Ok-clause-fits : goal.returns-in-Ok-clause-fits
 returns-in-Ok-clause-fits g c = λ v told. staged-fits (parcel_of c.args.given.now (EndUpload 0 0)) c.args.upload c.append.new.self c.args.given.now.found c.staged.result c.requires.found c.staged.ensures.right c.staged.ensures.wrong g.T.Stage.upload g.T.Stage.size g.T.Stage.bytes v
