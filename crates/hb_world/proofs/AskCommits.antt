@@ -14,15 +14,12 @@ use Rattle.hb_desk.specs.Reply.{Reply}
 use Rattle.hb_desk.specs.declared.asks.Ask.{Ask}
 use Rattle.hb_desk.specs.declared.told.Told.{Told}
 use Rattle.hb_desk.specs.declared.refusals.Refusal.{Refusal}
+use Rattle.hb_desk.specs.declared.refusals.Refusal.TheVariants.{Keeper}
 use Rattle.hb_plan.specs.Plans.{BatchOf, IsPlanFault, PlanFits, Plans}
 use Rattle.hb_plan.specs.RowReplies.{row_reply}
 use Rattle.hb_plan.specs.declared.planned.Planned.{Planned}
+use Rattle.hb_world.proofs.Faults.{no-answer}
 use Rattle.hb_world.specs.Asking.{AskFits, count_after, count_with, last_after, last_with, with_batch, with_entry}
-
--- a fault isn't an answer
-no-answer : {A : Type 0} (refusal : Refusal) → IsPlanFault refusal → is_fault false (Err refusal) ≡ false → A
-no-answer refusal (inl memory) h = absurd (subst (λ x. is_fault false (Err x) ≡ false → ⊥) (sym memory) (λ e. cc e) h)
-no-answer refusal (inr keeper) h = absurd (subst (λ x. is_fault false (Err x) ≡ false → ⊥) (sym keeper) (λ e. cc e) h)
 
 -- a refusal, by which nothing is committed
 refused-fits : (r : Tables) (reply : Reply) (t entries last : ℕ) (rows' : Option Tables) (entries' last' : ℕ) (refusal : Refusal) → (is_fault false (Err refusal) ≡ false → Err refusal ≡ reply.outcome) → rows' ≡ Some r → entries' ≡ entries → last' ≡ last → entries ≡ length r.audit → AskFits r reply t rows' entries' last last' (Err refusal)
@@ -61,7 +58,7 @@ commit-fits (Some r) planned_rows placements ask n t entries last planned (Ok x)
     λ here notes placed. let after : n ≡ suc (length r.audit) = omega (arith, next, here) in
     planned-ok r (row_reply (Asked ask) r notes) n t entries last planned x rows' entries' last' after here (plan after notes placed) told (rows ∙ ap (with_batch planned.batch) unread) count own
 commit-fits (Some r) planned_rows placements ask n t entries last planned (Err refusal) rows' entries' last' unread next plan told rows count own same fault =
-    λ here notes placed. refused-fits r (row_reply (Asked ask) r notes) t entries last rows' entries' last' refusal (no-answer refusal fault) (same.0 ∙ unread) same.1 same.2 here
+    λ here notes placed. refused-fits r (row_reply (Asked ask) r notes) t entries last rows' entries' last' refusal (no-answer Keeper refusal refl fault) (same.0 ∙ unread) same.1 same.2 here
 
 pub refused-plan : (rows : Option Tables) (placements : List Placement) (ask : Ask) (n t entries last : ℕ) (refusal : Refusal) (rows' : Option Tables) → n ≡ entries + 1 → Plans rows placements ask n t (Err refusal) → rows' ≡ rows
     → IfSome rows (λ r. entries ≡ length r.audit → (notes : Notes) → notes.placements ≡ placements → AskFits r (row_reply (Asked ask) r notes) t rows' entries last last (Err refusal))
@@ -70,5 +67,5 @@ refused-plan (Some r) placements ask n t entries last refusal rows' next plan ro
     λ here notes placed. refused-fits r (row_reply (Asked ask) r notes) t entries last rows' entries last refusal (answered (row_reply (Asked ask) r notes) (plan (omega (arith, next, here)) notes placed)) rows refl refl here
   where
     answered : (reply : Reply) → PlanFits reply r n t (Err refusal) → is_fault false (Err refusal) ≡ false → Err refusal ≡ reply.outcome
-    answered reply (inl fault) h = no-answer refusal fault h
+    answered reply (inl fault) h = no-answer Keeper refusal refl fault h
     answered reply (inr is) h = sym is

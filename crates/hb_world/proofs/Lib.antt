@@ -1,5 +1,6 @@
 pub mod AskCommits
 pub mod AskEvents
+pub mod Faults
 pub mod Opened
 pub mod Opening
 pub mod ReadPages

@@ -23,6 +23,8 @@ use Rattle.hb_model.specs.Fit.{Tells, unbuilt_at}
 use Rattle.hb_model.specs.History.{Legal, Stands, latest}
 use Rattle.hb_model.specs.LegalProjects.{library}
 use Rattle.hb_model.specs.ProjectEffects.{make_project}
+use Rattle.hb_model.specs.Replay.{replay}
+use Rattle.hb_model.specs.Sound.{IsSound}
 use Rattle.hb_model.specs.Whole.{IsWhole, no_notes}
 use Rattle.hb_model.specs.declared.misfits.Misfit.{Misfit}
 use Rattle.hb_model.proofs.WholeSteps.{quiet-whole, whole-without_notes}
@@ -31,6 +33,7 @@ use Rattle.hb_world.specs.Starting.{CanStart, IsAtRest, Started, first_entry, op
 use Rattle.hb_world.specs.Worlds.{IsTrueStore, IsWorld, RowsStand, Shown}
 use Rattle.hb_world.proofs.StoreSteps.{found_bytes}
 use Rattle.hb_model.proofs.FitLaws.{fit-or-not, fits-apart}
+use Rattle.hb_history.proofs.WholeSound.{sound-whole}
 
 -- ---- the first entry
 -- its batch makes what it does
@@ -181,6 +184,12 @@ started-world rows contents now after keeper_faults store_faults notes entries m
 
     stand : Holds after
     stand = go rows can started
+
+-- what is told of a world is sound
+pub told-sound : (rows : Option Tables) (contents : Option Contents) (n : Notes) (t : ℕ) → IfSome rows (λ r. IfSome contents (λ c. IsWhole r n c t)) → IfSome rows (λ r. IfSome contents (λ c. IsSound (replay r.audit) c))
+told-sound None contents n t h = tt
+told-sound (Some r) None n t h = tt
+told-sound (Some r) (Some c) n t h = sound-whole r n c t h
 
 -- the devices of a world that is closed
 pub closed-rest : (w : Shown) → IsWorld w → IsAtRest w.rows w.contents

@@ -25,6 +25,7 @@ use Rattle.hb_desk.specs.Noting.{gone_by, handed_back, noted, placed_with, placi
 use Rattle.hb_desk.specs.Reply.{Reply, reply}
 use Rattle.hb_desk.specs.State.{State}
 use Rattle.hb_desk.specs.declared.refusals.Refusal.{Refusal}
+use Rattle.hb_desk.specs.declared.refusals.Refusal.TheVariants.{Storage}
 use Rattle.hb_desk.proofs.AskedWhole.{later-whole}
 use Rattle.hb_desk.proofs.LegalReplies.{is_ask, no-entry}
 use Rattle.hb_plan.specs.BuiltAudits.{AllBuilt, NoneGone}
@@ -34,6 +35,7 @@ use Rattle.hb_world.specs.First.{Stands}
 use Rattle.hb_world.specs.Storing.{IsStoreFault, RowsReply}
 use Rattle.hb_world.specs.Worlds.{IsTrueStore, IsWorld, RowsStand, Shown, view_of}
 use Rattle.hb_world.proofs.AskEvents.{mine-grows}
+use Rattle.hb_world.proofs.Faults.{no-answer}
 use Rattle.hb_world.proofs.StoreSteps.{All-passed}
 
 -- what each such event leaves of a world
@@ -275,16 +277,11 @@ same-done w w' call outcome stays unnoted same answers = record {
   kept = λ r c built is h. subst (λ n. IsWhole r n c w'.moment) (sym same) (later-whole r w.notes c w.moment w'.moment h stays.later);
 }
 
--- a fault of the store isn't an answer
-no-answer : {A : Type 0} (refusal : Refusal) → IsStoreFault refusal → is_fault false (Err refusal) ≡ false → A
-no-answer refusal (inl memory) h = absurd (subst (λ x. is_fault false (Err x) ≡ false → ⊥) (sym memory) (λ e. cc e) h)
-no-answer refusal (inr storage) h = absurd (subst (λ x. is_fault false (Err x) ≡ false → ⊥) (sym storage) (λ e. cc e) h)
-
 -- a stage that is handed back is dropped, or a fault is told
 pub handed-answers : {T : Type 0} (rows : Option Tables) (n : Notes) (upload : ℕ) (result : Result T Refusal) → IfErr result IsStoreFault → RowsReply rows n (StageDropped upload true) (plain (λ x. Dropped) result)
 handed-answers None n upload result fault = tt
 handed-answers (Some r) n upload (Ok x) fault = λ h. refl
-handed-answers (Some r) n upload (Err refusal) fault = λ h. no-answer refusal fault h
+handed-answers (Some r) n upload (Err refusal) fault = λ h. no-answer Storage refusal refl fault h
 
 -- what is placed has the number of entries as its number, or a fault is told
 pub placed-answers : (w : Shown) (upload : ℕ) (d : Digest) (result : Result ℕ Refusal) → IsWorld w → IfOk result (λ x. x ≡ w.entries) → IfErr result IsStoreFault → RowsReply w.rows w.notes (StagePlaced upload d) (plain Number result)
@@ -293,7 +290,7 @@ placed-answers w upload d result h number fault = go w.rows h.rows result number
     go : (rows : Option Tables) → IfSome rows (λ r. RowsStand r w) → (result : Result ℕ Refusal) → IfOk result (λ x. x ≡ w.entries) → IfErr result IsStoreFault → RowsReply rows w.notes (StagePlaced upload d) (plain Number result)
     go None stand result number fault = tt
     go (Some r) stand (Ok x) number fault = λ h. ap (λ m. Ok (Number m)) (number ∙ stand.count)
-    go (Some r) stand (Err refusal) number fault = λ h. no-answer refusal fault h
+    go (Some r) stand (Err refusal) number fault = λ h. no-answer Storage refusal refl fault h
 
 pub placed-held : (P : Type 0) (result : Result ℕ Refusal) → OnOk result P → (gave : Gave) → plain Number result ≡ Ok gave → P
 placed-held P (Ok x) h gave ok = h

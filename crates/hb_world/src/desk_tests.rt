@@ -3,12 +3,13 @@ ghost use Rattle.std.specs.Prelude.{◌≡◌, true, length, Some, IfOk, IsSomeA
 ghost use Rattle.hb_text.specs.Digests.{digest_of};
 
 use crate::{World, empty_devices_are_at_rest};
-use hb_desk::{Ask, Desk, Refusal, Told};
+use hb_desk::{Alone, Ask, Desk, Others, Refusal, Told};
 use hb_keeper::MemKeeper;
 use hb_records::{DigestList, Duplicate, Listed, PutAsk};
-use hb_store::{MemStore, Reader, Stage};
+use hb_store::{MemStore, Reader, Stage, Store};
 use hb_text::{Digest, Name, Reference, Tag, Text};
 use std::alloc::Global;
+use std::marker::Model;
 use std::process::Abort;
 use std::test::Fail;
 
@@ -244,6 +245,41 @@ fn whole(bytes: &[u8]) -> ((Digest, usize), (Digest, u64)) {
     ((digest, bytes.len()), (digest, bytes.len() as u64))
 }
 
+// Another caller, who asks the same before each event. It seals nothing.
+#[derive(Drop)]
+struct Other {
+    ask: Ask,
+}
+
+impl Model for Other {
+    ghost use Rattle.std.specs.Prelude.{◌≡◌, ℕ, false};
+    ghost use Rattle.hb_desk.specs.Calls.{Asked, Outcome};
+    ghost use Rattle.hb_desk.specs.Clause.{moves_seal};
+    ghost use Rattle.hb_desk.specs.declared.asks.Ask.{Ask};
+
+    ghost Value = { Ask };
+
+    ghost view = { λ o. o.ask };
+
+    ghost invariant = { λ o. (u : ℕ) (outcome : Outcome) → moves_seal u (Asked o.ask) outcome ≡ false };
+}
+
+impl<S: Store> Others<World<MemKeeper, S>> for Other {
+    fn between(&mut self, desk: &mut World<MemKeeper, S>, now: u64) {
+        let _asked = desk.ask(&self.ask, now);
+    }
+}
+
+// A world in which uploads of `library/b` begin before each event of the caller.
+fn shared(alloc: Global) -> Result<Alone<MemWorld, Other>, Fail> {
+    let name = Name::read(alloc, b"library/b")?;
+    let other = Other {
+        ask: Ask::BeginUpload { name },
+    };
+    let world = world(alloc, &[], &[], &[])?;
+    Ok(Alone::new(alloc, world, other))
+}
+
 // The reference that the manifest is refused for, where it is.
 fn missing<D: Desk>(alloc: Global, desk: &mut D, name: &Name) -> Option<Digest> {
     match put(alloc, desk, name) {
@@ -282,20 +318,20 @@ fn opens<D: Desk>(
     Ok(())
 }
 
-// Each is what it is to be. Of the twelve entries the first is the start's.
+// Each is what it is to be, over a desk that others share.
 fn puts<D: Desk>(rt: &impl Abort, alloc: Global, desk: &mut D, name: &Name) -> Result<(), Refusal> {
     let missed = push_and_put(alloc, desk, name)?;
     assert_eq!(rt; missed, Some(Digest::of(b"abc")));
     opens(rt, alloc, desk, name)?;
-    assert_eq!(rt; (desk.seen(), desk.last()), (12, 12));
+    assert_eq!(rt; (desk.seen(), desk.last()), (35, 32));
     Ok(())
 }
 
-// A manifest is put where what it refers to is there.
+// A manifest is put where what it refers to is there, while another caller acts before each event.
 #[test]
-fn a_manifest_is_put(rt: HostRuntime) -> Result<(), Fail> {
+fn a_manifest_is_put_while_another_acts(rt: HostRuntime) -> Result<(), Fail> {
     let name = Name::read(rt.alloc(), b"library/a")?;
-    let mut desk = world(rt.alloc(), &[], &[], &[])?;
+    let mut desk = shared(rt.alloc())?;
     puts(&rt, rt.alloc(), &mut desk, &name)?;
     Ok(())
 }

@@ -1,10 +1,13 @@
 //! A world: the rows of a keeper and the contents of a store that fit one another.
-ghost use Rattle.std.specs.Prelude.{◌≡◌, ◌≤◌, Some, IfOk, IfErr};
+ghost use Rattle.std.specs.Prelude.{◌≡◌, ◌≤◌, Some, IfOk, IfErr, IfSome};
 ghost use Rattle.hb_keeper.specs.declared.keeper.KeepFault.TheVariants as keep;
 ghost use Rattle.hb_rows.specs.Tables.{empty_tables};
 ghost use Rattle.hb_store.specs.MemStores.{empty_contents};
+ghost use Rattle.hb_model.specs.Replay.{replay};
+ghost use Rattle.hb_model.specs.Sound.{IsSound};
 ghost use Rattle.hb_model.specs.Whole.{no_notes};
 ghost use Rattle.hb_world.specs.Starting.{CanStart, IsAtRest, Refused, Started};
+ghost use Rattle.hb_world.specs.Worlds.{IsWorld, shown};
 ghost use Rattle.hb_world.specs.declared.world.StartFault.TheVariants.{Failed, Memory};
 
 use crate::remembered::Remembered;
@@ -142,6 +145,16 @@ impl<K: Keeper, S: Store> World<K, S> {
                 store,
             }),
         }
+    }
+
+    /// Its rows are those of a legal audit, and rows, contents and what is remembered fit one another: what clients
+    /// see after the audit is stored, with bytes of its digest. It does nothing, and its contract is what holds
+    /// of a world at every event.
+    pub fn holds(&self)
+        ensures whole { IsWorld (shown K.rows K.faults S.contents S.faults self.now) }
+        ensures sound { IfSome (K.rows self.now.keeper) (λ r. IfSome (S.contents self.now.store) (λ c. IsSound (replay r.audit) c)) }
+    {
+        let _moment = self.moment;
     }
 
     /// The devices, on which a world starts again.
