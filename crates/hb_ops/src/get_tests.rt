@@ -6,6 +6,7 @@ ghost use Rattle.hb_ops.specs.Gets.{PhaseFits, is_ended};
 
 use crate::{Get, Got};
 use hb_desk::{Ask, Desk, Op, Opened, Progress, Refusal, Staged, Told};
+use hb_records::{Listed, SealedList};
 use hb_store::{MemReader, MemStage, MemStore, Reader, Stage, Store, StoreFault};
 use hb_text::{Digest, Name, Reference, Text};
 use std::alloc::Global;
@@ -24,6 +25,8 @@ struct StoreDesk {
     moment: u64,
     // the last pull that was noted
     noted: Option<Digest>,
+    // what its caller sealed: a get seals nothing
+    sealed: SealedList,
 }
 
 // A reader of what is held under the digest.
@@ -41,13 +44,13 @@ fn fetched(store: &mut MemStore, digest: &Digest, now: u64) -> Result<MemReader,
 }
 
 impl Desk for StoreDesk {
-    ghost use Rattle.std.specs.Prelude.{false, None, []};
+    ghost use Rattle.std.specs.Prelude.{false, None};
 
     type Stage = MemStage;
 
     type Reader = MemReader;
 
-    ghost view = { λ d. record { state = None; entries = 0; moment = d.moment; mine = λ n. false; last = 0; sealed = []; keeper_faults = 0; store_faults = d.store.script.faults; told_bytes = false; sole = false; spent = false } };
+    ghost view = { λ d. record { state = None; entries = 0; moment = d.moment; mine = λ n. false; last = 0; sealed = d.sealed; keeper_faults = 0; store_faults = d.store.script.faults; told_bytes = false; sole = false; spent = false } };
 
     ghost one_length = { λ d. Unit {0} };
 
@@ -153,6 +156,7 @@ fn desk(alloc: Global, bytes: &[u8], fails: &[u64]) -> Result<StoreDesk, Fail> {
         store,
         moment: 0,
         noted: None,
+        sealed: Listed::new(alloc),
     })
 }
 
