@@ -1,5 +1,5 @@
 -- An event of a caller before which others acted.
-use Rattle.std.proofs.Common.{◌≡◌, ◌≢◌, ◌||◌, ℕ, suc, ◌≤◌, ◌<◌, Bool, true, false, not, cond, List, [], ◌∷◌, ◌++◌, length, Option, Some, None, Result, Ok, Err, IfSome, is_some, is_err, nat_eq, refl, ap, subst, sym, ◌∙◌, inl, inr, arith}
+use Rattle.std.proofs.Common.{◌≡◌, ◌≢◌, ◌||◌, ◌^◌, ℕ, suc, ◌≤◌, ◌<◌, Bool, true, false, not, cond, List, [], ◌∷◌, ◌++◌, length, Option, Some, None, Result, Ok, Err, IfSome, is_some, is_err, nat_eq, refl, ap, subst, sym, ◌∙◌, inl, inr, arith}
 use Rattle.std.proofs.lemmas.Bool.Decides.{nat_tests}
 use Rattle.hb_outside.specs.Causes.{Rose}
 use Rattle.hb_text.specs.declared.digests.Digest.{Digest}
@@ -105,7 +105,7 @@ module _ (own own' : List ℕ) (old mid new : View) (last last' : ℕ) (sealed s
       }
 
   -- others acted, and then the caller
-  alone-event : Between old mid → MineTo → EventOf mid new call outcome → EventOf (alone_view old own last sealed) (alone_view new own' last' sealed') call outcome
+  alone-event : Between sealed old mid → MineTo → EventOf mid new call outcome → EventOf (alone_view old own last sealed) (alone_view new own' last' sealed') call outcome
   alone-event between mine event = go old.state between.events
     where
       go : (o : Option State) → IfSome o (λ s. (es : List Event) × AllFit es s × (mid.state ≡ Some (after es s))) → IfSome o (λ s. EventFrom s (alone_view old own last sealed) (alone_view new own' last' sealed') call outcome)
@@ -117,7 +117,7 @@ none-acknowledged (Ok gave) made is = ap (λ (k : Option EntryKind). is_some k) 
 none-acknowledged (Err refusal) made is = refl
 
 -- a call that is no ask makes no entry
-pub alone-quiet : (own : List ℕ) (old mid new : View) (last : ℕ) (sealed sealed' : List Sealed) (call : Call) (outcome : Outcome) → is_ask call ≡ false → Between old mid → EventOf mid new call outcome → EventOf (alone_view old own last sealed) (alone_view new own last sealed') call outcome
+pub alone-quiet : (own : List ℕ) (old mid new : View) (last : ℕ) (sealed sealed' : List Sealed) (call : Call) (outcome : Outcome) → is_ask call ≡ false → Between sealed old mid → EventOf mid new call outcome → EventOf (alone_view old own last sealed) (alone_view new own last sealed') call outcome
 unfolding MineTo
 alone-quiet own old mid new last sealed sealed' call outcome other between event =
     alone-event own own old mid new last last sealed sealed' call outcome between
@@ -125,29 +125,32 @@ alone-quiet own old mid new last sealed sealed' call outcome other between event
     event
 
 -- an ask, with the slot that was taken before it
-pub alone-ask : (own own' : List ℕ) (old mid new : View) (last last' : ℕ) (sealed sealed' : List Sealed) (ask : Ask) (outcome : Outcome) → Stored own own' last last' mid new → mid.last ≤ mid.entries → Between old mid → EventOf mid new (Asked ask) outcome → EventOf (alone_view old own last sealed) (alone_view new own' last' sealed') (Asked ask) outcome
+pub alone-ask : (own own' : List ℕ) (old mid new : View) (last last' : ℕ) (sealed sealed' : List Sealed) (ask : Ask) (outcome : Outcome) → Stored own own' last last' mid new → mid.last ≤ mid.entries → Between sealed old mid → EventOf mid new (Asked ask) outcome → EventOf (alone_view old own last sealed) (alone_view new own' last' sealed') (Asked ask) outcome
 unfolding MineTo
 alone-ask own own' old mid new last last' sealed sealed' ask outcome stored low between event =
     alone-event own own' old mid new last last' sealed sealed' (Asked ask) outcome between
     (λ x le grows. mine-stored own own' old mid new last last' sealed sealed' (length x.audit) (commits_at new (Asked ask) outcome x) stored (omega (arith, low, le)) grows) event
 
--- an event that stayed out for want of memory
-pub alone-memory : (own : List ℕ) (old : View) (last : ℕ) (sealed : List Sealed) (ask : Ask) → IfSome old.state (λ s. Known old s) → EventOf (alone_view old own last sealed) (alone_view old own last sealed) (Asked ask) (Err Memory)
-alone-memory own old last sealed ask known = go old.state refl known
+-- an event that stayed out for want of memory, after others acted
+pub alone-memory : (own : List ℕ) (old mid : View) (last : ℕ) (sealed : List Sealed) (ask : Ask) → Between sealed old mid → IfSome mid.state (λ s. Known mid s) → EventOf (alone_view old own last sealed) (alone_view mid own last sealed) (Asked ask) (Err Memory)
+alone-memory own old mid last sealed ask between known = go old.state between.events
   where
-    go : (o : Option State) → old.state ≡ o → IfSome o (λ s. Known old s) → IfSome o (λ s. EventFrom s (alone_view old own last sealed) (alone_view old own last sealed) (Asked ask) (Err Memory))
-    go None is h = tt
-    go (Some s) is h = record {
-      others = [];
-      fits = tt;
-      alone = λ _. refl;
+    unmade : (s : State) (es : List Event) → AllFit es s → mid.state ≡ Some (after es s) → Known mid (after es s) → EventFrom s (alone_view old own last sealed) (alone_view mid own last sealed) (Asked ask) (Err Memory)
+    unmade s es fits is h = record {
+      others = es;
+      fits = fits;
+      alone = λ e. cc e;
       history = h.history;
       later = h.later;
       answered = λ whole. cc whole;
-      mine = mine-none own old old last sealed sealed (length s.audit);
-      count = omega (arith, h.count);
+      mine = mine-none own old mid last sealed sealed (length (after es s).audit);
+      count = omega (arith, between.entries, h.count);
       leaves = inr (refl, is);
     }
+
+    go : (o : Option State) → IfSome o (λ s. (es : List Event) × AllFit es s × (mid.state ≡ Some (after es s))) → IfSome o (λ s. EventFrom s (alone_view old own last sealed) (alone_view mid own last sealed) (Asked ask) (Err Memory))
+    go None h = tt
+    go (Some s) h = unmade s h.0 h.1 h.2 (subst (λ (o : Option State). IfSome o (λ x. Known mid x)) h.2 known)
 
 -- ---- what the caller sealed
 sealed-other : (u upload : ℕ) (sealed : List Sealed) → nat_eq u upload ≡ false → sealed_at u (without_sealed upload sealed) ≡ sealed_at u sealed
@@ -175,14 +178,14 @@ still-sealed u upload x sealed h = go (nat_eq u upload) refl
     go false is = (is, sym (sealed-other u upload sealed is) ∙ h)
 
 -- after a placing, whatever was answered
-pub knows-placed : (old mid new : View) (now last upload : ℕ) (d : Digest) (sealed : List Sealed) (outcome : Outcome) → AloneKnows old last sealed → Between old mid → Causes mid new now (StagePlaced upload d) outcome → AloneKnows new last (without_sealed upload sealed)
+pub knows-placed : (old mid new : View) (now last upload : ℕ) (d : Digest) (sealed : List Sealed) (outcome : Outcome) → AloneKnows old last sealed → Between sealed old mid → Causes mid new now (StagePlaced upload d) outcome → AloneKnows new last (without_sealed upload sealed)
 knows-placed old mid new now last upload d sealed outcome knows between causes = record {
   low = omega (arith, knows.low, between.entries, causes.entries);
-  own = λ u x h. let still = still-sealed u upload x sealed h in causes.sealed u x still.0 (between.sealed u x (knows.own u x still.1));
+  own = λ u x h. let still = still-sealed u upload x sealed h in causes.sealed u x still.0 (between.sealed u x still.1 (knows.own u x still.1));
 }
 
 -- the causes of a caller that isn't alone, where it keeps what it sealed of the uploads that the call lets be
-pub causes-after : (own own' : List ℕ) (old mid new : View) (now last last' : ℕ) (sealed sealed' : List Sealed) (call : Call) (outcome : Outcome) → ((u : ℕ) (x : Sealed) → moves_seal u call outcome ≡ false → sealed_at u sealed ≡ Some x → sealed_at u sealed' ≡ Some x) → Between old mid → Causes mid new now call outcome → Causes (alone_view old own last sealed) (alone_view new own' last' sealed') now call outcome
+pub causes-after : (own own' : List ℕ) (old mid new : View) (now last last' : ℕ) (sealed sealed' : List Sealed) (call : Call) (outcome : Outcome) → ((u : ℕ) (x : Sealed) → moves_seal u call outcome ≡ false → sealed_at u sealed ≡ Some x → sealed_at u sealed' ≡ Some x) → Between sealed old mid → Causes mid new now call outcome → Causes (alone_view old own last sealed) (alone_view new own' last' sealed') now call outcome
 causes-after own own' old mid new now last last' sealed sealed' call outcome keeps between causes = record {
   keeper_later = omega (arith, between.keeper_later, causes.keeper_later);
   store_later = omega (arith, between.store_later, causes.store_later);
@@ -281,10 +284,10 @@ own-asked (PutArtifact upload put) (Ok told) sealed desk_sealed others seals u x
 own-asked (NotePull name d) (Ok told) sealed desk_sealed others seals u x h = others u x refl h
 own-asked ask (Err refusal) sealed desk_sealed others seals u x h = others u x (still-err u ask refusal) h
 
-pub knows-asked : (old mid new : View) (now last last' : ℕ) (ask : Ask) (result : Result Told Refusal) (sealed : List Sealed) → AloneKnows old last sealed → Between old mid → Causes mid new now (Asked ask) (plain Tells result) → Seals ask result new.sealed → last' ≤ new.entries → AloneKnows new last' (sealed_after ask result sealed)
+pub knows-asked : (old mid new : View) (now last last' : ℕ) (ask : Ask) (result : Result Told Refusal) (sealed : List Sealed) → AloneKnows old last sealed → Between sealed old mid → Causes mid new now (Asked ask) (plain Tells result) → Seals ask result new.sealed → last' ≤ new.entries → AloneKnows new last' (sealed_after ask result sealed)
 knows-asked old mid new now last last' ask result sealed knows between causes seals low = record {
   low = low;
-  own = own-asked ask result sealed new.sealed (λ u x still h. causes.sealed u x still (between.sealed u x (knows.own u x h))) seals;
+  own = own-asked ask result sealed new.sealed (λ u x still h. causes.sealed u x still (between.sealed u x h (knows.own u x h))) seals;
 }
 
 -- the seal that was noted before an ask, and taken back where it was refused
@@ -293,9 +296,27 @@ sealed-kept ask (Ok told) seal slot new sealed refused is slot_is refused_is kep
 sealed-kept ask (Err refusal) seal slot new sealed refused is slot_is refused_is kept undone = undone refused_is sealed slot_is
 
 -- ---- what others do
--- one event of theirs that moves no seal
-pub one-between : (old new : View) (now : ℕ) (call : Call) (outcome : Outcome) → ((u : ℕ) → moves_seal u call outcome ≡ false) → old.spent ≡ false → new.spent ≡ false → EventOf old new call outcome → Causes old new now call outcome → Between old new
-one-between old new now call outcome unmoved before seat event causes = record {
+pub none-between : (own : List Sealed) (v : View) → v.entries ≤ 2 ^ 62 → Between own v v
+none-between own v room = record {
+  events = go v.state refl;
+  keeper_later = omega (arith);
+  store_later = omega (arith);
+  entries = omega (arith);
+  room = room;
+  moment = omega (arith);
+  sole = refl;
+  told_bytes = refl;
+  spent = refl;
+  sealed = λ u x mine h. h;
+}
+  where
+    go : (state : Option State) → v.state ≡ state → IfSome state (λ s. (es : List Event) × AllFit es s × (v.state ≡ Some (after es s)))
+    go None is = tt
+    go (Some s) is = ([], tt, is)
+
+-- one event of theirs that moves no seal of the caller's
+pub one-between : (own : List Sealed) (old new : View) (now : ℕ) (call : Call) (outcome : Outcome) → ((u : ℕ) (x : Sealed) → sealed_at u own ≡ Some x → moves_seal u call outcome ≡ false) → old.spent ≡ false → new.spent ≡ false → EventOf old new call outcome → Causes old new now call outcome → Between own old new
+one-between own old new now call outcome unmoved before seat event causes = record {
   events = go old.state event;
   keeper_later = causes.keeper_later;
   store_later = causes.store_later;
@@ -305,7 +326,7 @@ one-between old new now call outcome unmoved before seat event causes = record {
   sole = causes.sole;
   told_bytes = causes.told_bytes;
   spent = seat ∙ sym before;
-  sealed = λ u x h. causes.sealed u x (unmoved u) h;
+  sealed = λ u x mine h. causes.sealed u x (unmoved u x mine) h;
 }
   where
     here : Event
@@ -317,3 +338,24 @@ one-between old new now call outcome unmoved before seat event causes = record {
       | inl made ↦ (here ∷ e.others, (record { answered = subst (λ seat. Fits seat here (after e.others s)) seat e.answered; later = e.later }, e.fits), made)
       | inr unmade ↦ (e.others, e.fits, unmade.1)
     ]
+
+-- and more of them
+pub between-more : (own : List Sealed) (old mid new : View) → Between own old mid → Between own mid new → Between own old new
+between-more own old mid new one two = record {
+  events = go old.state one.events;
+  keeper_later = omega (arith, one.keeper_later, two.keeper_later);
+  store_later = omega (arith, one.store_later, two.store_later);
+  entries = omega (arith, one.entries, two.entries);
+  room = two.room;
+  moment = omega (arith, one.moment, two.moment);
+  sole = two.sole ∙ one.sole;
+  told_bytes = two.told_bytes ∙ one.told_bytes;
+  spent = two.spent ∙ one.spent;
+  sealed = λ u x mine h. two.sealed u x mine (one.sealed u x mine h);
+}
+  where
+    go : (state : Option State) → IfSome state (λ s. (es : List Event) × AllFit es s × (mid.state ≡ Some (after es s))) → IfSome state (λ s. (es : List Event) × AllFit es s × (new.state ≡ Some (after es s)))
+    go None h = tt
+    go (Some s) h =
+        let later = subst (λ (o : Option State). IfSome o (λ x. (es : List Event) × AllFit es x × (new.state ≡ Some (after es x)))) h.2 two.events in
+        (later.0 ++ h.0, fits-more later.0 h.0 s later.1 h.1, later.2 ∙ ap (λ x. Some x) (sym (after-more later.0 h.0 s)))

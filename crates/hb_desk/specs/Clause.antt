@@ -125,8 +125,8 @@ Seals (Seal upload d size) (Ok x) sealed = sealed_at upload sealed ≡ Some (rec
 Seals (SealManifest upload put) (Ok x) sealed = sealed_at upload sealed ≡ Some (record { upload = upload; digest = put.digest; size = put.size })
 Seals ask result sealed = Unit {0}
 
--- What others may do to a desk between two events of its caller.
-pub record Between (old new : View) : Type 0 where
+-- What others may do to a desk between two events of a caller that has sealed `own`, and not placed it yet.
+pub record Between (own : List Sealed) (old new : View) : Type 0 where
   pub events : IfSome old.state (λ s. (es : List Event) × AllFit es s × (new.state ≡ Some (after es s)))
   pub keeper_later : old.keeper_faults ≤ new.keeper_faults
   pub store_later : old.store_faults ≤ new.store_faults
@@ -136,4 +136,4 @@ pub record Between (old new : View) : Type 0 where
   pub sole : new.sole ≡ old.sole
   pub told_bytes : new.told_bytes ≡ old.told_bytes
   pub spent : new.spent ≡ old.spent
-  pub sealed : (u : ℕ) (x : Sealed) → sealed_at u old.sealed ≡ Some x → sealed_at u new.sealed ≡ Some x
+  pub sealed : (u : ℕ) (x : Sealed) → sealed_at u own ≡ Some x → sealed_at u old.sealed ≡ Some x → sealed_at u new.sealed ≡ Some x

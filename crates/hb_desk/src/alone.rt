@@ -19,9 +19,10 @@ use std::marker::Model;
 
 /// Others who act between two events of a caller.
 pub trait Others<D: Desk> {
-    /// Acts by events alone, each of which fits its reply, and places only what it sealed itself.
-    fn between(&mut self, desk: &mut D, now: u64)
-        ensures { Between (D.view desk.old) (D.view desk.new) };
+    /// Acts by events alone, each of which fits its reply. What the caller has sealed and not placed, `own`, is the
+    /// caller's to place: others leave it sealed.
+    fn between(&mut self, desk: &mut D, own: &[Sealed], now: u64)
+        ensures { Between own.now (D.view desk.old) (D.view desk.new) };
 }
 
 // The numbers of a caller's own entries, the latest first. A 0 stands for an event without one.
@@ -106,6 +107,13 @@ impl Seals {
     {
         self.sealed.retain(|seal| is_other(upload, seal));
     }
+}
+
+// Others act.
+fn between<D: Desk, X: Others<D>>(others: &mut X, desk: &mut D, own: &Seals, now: u64)
+    ensures { Between own.now (D.view desk.old) (D.view desk.new) }
+{
+    others.between(desk, own.sealed.as_slice(), now);
 }
 
 // Slots for the number of the event to come, and for what it is to seal.
@@ -215,11 +223,11 @@ impl<D: Desk, X: Others<D>> Desk for Alone<D, X> {
 
     fn ask(&mut self, ask: &Ask, now: u64) -> Result<Told, Refusal> {
         let seal = seal_of(ask);
+        between(&mut self.others, &mut self.desk, &self.sealed, now);
         if reserve(&mut self.own, &mut self.sealed, seal).is_err() {
             let _seen = self.desk.seen();
             return Err(Refusal::Memory);
         }
-        self.others.between(&mut self.desk, now);
         let before = self.desk.last();
         let result = self.desk.ask(ask, now);
         let after = self.desk.last();
@@ -235,7 +243,7 @@ impl<D: Desk, X: Others<D>> Desk for Alone<D, X> {
         start: Option<u64>,
         now: u64,
     ) -> Result<Staged<D::Stage>, Refusal> {
-        self.others.between(&mut self.desk, now);
+        between(&mut self.others, &mut self.desk, &self.sealed, now);
         self.desk.stage(name, upload, start, now)
     }
 
@@ -246,19 +254,19 @@ impl<D: Desk, X: Others<D>> Desk for Alone<D, X> {
         digest: &Digest,
         now: u64,
     ) -> Result<u64, Refusal> {
-        self.others.between(&mut self.desk, now);
+        between(&mut self.others, &mut self.desk, &self.sealed, now);
         let result = self.desk.place(upload, stage, digest, now);
         self.sealed.end(upload);
         result
     }
 
     fn drop_stage(&mut self, upload: u64, stage: D::Stage, now: u64) -> Result<(), Refusal> {
-        self.others.between(&mut self.desk, now);
+        between(&mut self.others, &mut self.desk, &self.sealed, now);
         self.desk.drop_stage(upload, stage, now)
     }
 
     fn drop_left_stage(&mut self, upload: u64, now: u64) -> Result<(), Refusal> {
-        self.others.between(&mut self.desk, now);
+        between(&mut self.others, &mut self.desk, &self.sealed, now);
         self.desk.drop_left_stage(upload, now)
     }
 
@@ -268,7 +276,7 @@ impl<D: Desk, X: Others<D>> Desk for Alone<D, X> {
         digest: &Digest,
         now: u64,
     ) -> Result<Opened<D::Reader>, Refusal> {
-        self.others.between(&mut self.desk, now);
+        between(&mut self.others, &mut self.desk, &self.sealed, now);
         self.desk.open_blob(name, digest, now)
     }
 
@@ -278,7 +286,7 @@ impl<D: Desk, X: Others<D>> Desk for Alone<D, X> {
         reference: &Reference,
         now: u64,
     ) -> Result<Opened<D::Reader>, Refusal> {
-        self.others.between(&mut self.desk, now);
+        between(&mut self.others, &mut self.desk, &self.sealed, now);
         self.desk.open_manifest(name, reference, now)
     }
 

@@ -1,13 +1,15 @@
 //! What holds of replies and of events, whatever desk answers. Each function does nothing: its contract is the law.
-ghost use Rattle.std.specs.Prelude.{◌≡◌, ◌≤◌, ℕ, suc, true, false, List, length, Some};
+ghost use Rattle.std.specs.Prelude.{◌≡◌, ◌≤◌, ◌^◌, ℕ, suc, true, false, List, length, Some};
 ghost use Rattle.std.specs.List.{AllByRecursion};
 ghost use Rattle.hb_records.specs.declared.entries.EntryKind.{EntryKind};
+ghost use Rattle.hb_records.specs.declared.notes.Sealed.{Sealed};
 ghost use Rattle.hb_model.specs.History.{History, Legal, latest};
 ghost use Rattle.hb_desk.specs.Calls.{Call, Outcome};
 ghost use Rattle.hb_desk.specs.Chains.{Chain, Stands};
 ghost use Rattle.hb_desk.specs.Clause.{AllFit, Between, Causes, EventOf, View, moves_seal};
 ghost use Rattle.hb_desk.specs.Events.{Event, after};
 ghost use Rattle.hb_desk.specs.Keeping.{AsksKeepWhole};
+ghost use Rattle.hb_desk.specs.Notes.{sealed_at};
 ghost use Rattle.hb_desk.specs.Points.{Point};
 ghost use Rattle.hb_desk.specs.Prefix.{GoesOn};
 ghost use Rattle.hb_desk.specs.Reply.{reply};
@@ -36,11 +38,23 @@ pub fn asks_keep_the_registry_whole()
     ensures { AsksKeepWhole }
 {}
 
-/// One event of theirs that seals nothing and places nothing is what others may do between two events of a caller.
+/// One event of theirs that seals and places none of the caller's sealed uploads is what others may do between two
+/// events of a caller.
 pub fn one_event_is_what_others_may_do()
-    ensures { (old new : View) (now : ℕ) (call : Call) (outcome : Outcome) → ((u : ℕ) → moves_seal u call outcome ≡ false)
+    ensures { (own : List Sealed) (old new : View) (now : ℕ) (call : Call) (outcome : Outcome)
+        → ((u : ℕ) (x : Sealed) → sealed_at u own ≡ Some x → moves_seal u call outcome ≡ false)
         → old.spent ≡ false → new.spent ≡ false → EventOf old new call outcome → Causes old new now call outcome
-        → Between old new }
+        → Between own old new }
+{}
+
+/// Others may do nothing.
+pub fn others_may_rest()
+    ensures { (own : List Sealed) (v : View) → v.entries ≤ 2 ^ 62 → Between own v v }
+{}
+
+/// What others may do, and what they may do behind it, is together what they may do.
+pub fn what_others_do_adds_up()
+    ensures { (own : List Sealed) (old mid new : View) → Between own old mid → Between own mid new → Between own old new }
 {}
 
 /// What a caller had seen stays. So does what its events made: behind each point stands what happened there, and an

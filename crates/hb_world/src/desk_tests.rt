@@ -5,7 +5,7 @@ ghost use Rattle.hb_text.specs.Digests.{digest_of};
 use crate::{World, empty_devices_are_at_rest};
 use hb_desk::{Alone, Ask, Desk, Others, Refusal, Told};
 use hb_keeper::MemKeeper;
-use hb_records::{DigestList, Duplicate, Listed, PutAsk};
+use hb_records::{DigestList, Duplicate, Listed, PutAsk, Sealed};
 use hb_store::{MemStore, Reader, Stage, Store};
 use hb_text::{Digest, Name, Reference, Tag, Text};
 use std::alloc::Global;
@@ -265,7 +265,7 @@ impl Model for Other {
 }
 
 impl<S: Store> Others<World<MemKeeper, S>> for Other {
-    fn between(&mut self, desk: &mut World<MemKeeper, S>, now: u64) {
+    fn between(&mut self, desk: &mut World<MemKeeper, S>, _own: &[Sealed], now: u64) {
         let _asked = desk.ask(&self.ask, now);
     }
 }

@@ -9,7 +9,7 @@ pub returns-then-is_err-clause-event : goal.returns-then-is_err-clause-event
 returns-then-is_err-clause-event g c =
     let own : c.reserve.new.own ≡ c.self.inside.own = search rules in
     let sealed : c.reserve.new.sealed ≡ c.self.inside.sealed = search rules in
-    rw (← c.self.view_is, own, sealed) (alone-memory c.self.inside.own (g.D.Desk.view c.self.inside.desk) c.self.inside.last c.self.inside.sealed c.args.ask.now c.seen-seen.ensures.known)
+    rw (← c.self.view_is, own, sealed) (alone-memory c.self.inside.own (g.D.Desk.view c.self.inside.desk) (g.D.Desk.view c.between.new.desk) c.self.inside.last c.self.inside.sealed c.args.ask.now c.between.ensures c.seen-seen.ensures.known)
 
 pub returns-clause-event : goal.returns-clause-event
 returns-clause-event g c =
