@@ -123,6 +123,28 @@ impl<D: Desk> Push<D> {
     }
 
     /// How it ended, once it is done.
+    pub fn into_end(self) -> Option<Stop>
+        ensures decided { (begun : _) (points : List Point) → Went begun self points → IfSome result (λ stop. stop ≡ decided self.parcel points) }
+        ensures done { IsSome result ↔ (is_ended self.phase ≡ true) }
+    {
+        let Push {
+            given,
+            begin,
+            seal,
+            settle,
+            phase,
+        } = self;
+        mem::drop(given);
+        mem::drop(begin);
+        mem::drop(seal);
+        mem::drop(settle);
+        match phase {
+            Phase::Ended { stop } => Some(stop),
+            _ => None,
+        }
+    }
+
+    /// How it ended, once it is done.
     pub fn end(&self) -> Option<&Stop>
         ensures decided { (begun : _) (points : List Point) → Went begun self.now points → IfSome (option_copied result) (λ stop. stop ≡ decided self.now.parcel points) }
         ensures done { IsSome result ↔ (is_ended self.now.phase ≡ true) }
