@@ -1,5 +1,5 @@
 -- What is committed of a plan is what the reply over the rows makes.
-use Rattle.std.proofs.Common.{◌≡◌, ◌+◌, ℕ, suc, false, List, length, Option, Some, None, Result, Ok, Err, IfOk, IfErr, IfSome, refl, sym, ap, subst, ◌∙◌, inl, inr, arith}
+use Rattle.std.proofs.Common.{◌≡◌, ◌+◌, ℕ, suc, false, List, length, Option, Some, None, Result, Ok, Err, IfOk, IfErr, IfSome, refl, sym, ap, ◌∙◌, inl, inr, arith}
 use Rattle.hb_records.specs.declared.batches.Batch.{Batch}
 use Rattle.hb_records.specs.declared.batches.Row.TheVariants as row
 use Rattle.hb_records.specs.declared.entries.EntryKind.{EntryKind}

@@ -32,7 +32,7 @@ use Rattle.hb_plan.specs.RowRefusals.{no_project_row}
 use Rattle.hb_plan.specs.RowReplies.{open_artifact_row, open_row, row_named_by, row_reply}
 use Rattle.hb_plan.proofs.BuiltAudits.{present-stored}
 use Rattle.hb_plan.proofs.SeenRows.{artifact-seen, pair-seen}
-use Rattle.hb_world.specs.First.{Stands}
+use Rattle.hb_world.specs.StoreStands.{Stands}
 use Rattle.hb_world.specs.Storing.{RowsReply}
 use Rattle.hb_world.specs.Worlds.{IsTrueStore, IsWorld, OneLengthTold, RowsStand, Shown}
 use Rattle.hb_world.proofs.Opening.{opened_bytes}

@@ -1,29 +1,11 @@
--- A blob that was pushed is opened with bytes of its digest.
-use Rattle.std.proofs.Common.{◌≡◌, ℕ, List, ◌++◌, ◌∷◌, [], length, Option, Some, None, IfSome, IsSomeAnd, sym, subst, ◌∙◌, inl, inr}
-use Rattle.std.proofs.lemmas.List.Elements.{Contains-push_cases}
+-- What is opened has its digest, where what the store held has it.
+use Rattle.std.proofs.Common.{◌≡◌, ℕ, List, length, Option, Some, None, IfSome, IsSomeAnd, sym, subst, ◌∙◌}
 use Rattle.hb_text.specs.Digests.{digest_of}
 use Rattle.hb_text.specs.declared.digests.Digest.{Digest}
 use Rattle.hb_store.specs.Contents.{Contents, bytes_of}
 use Rattle.hb_store.specs.Calls.{Fetches}
-use Rattle.hb_world.specs.First.{IsTrueTo, HoldsPushed, Stands, Holds}
-use Rattle.hb_world.specs.declared.first.Pushed.{Pushed}
-
-pub HoldsPushed-stands : (old new : Option Contents) (pushed : List Pushed) → Stands old new → HoldsPushed old pushed → HoldsPushed new pushed
-HoldsPushed-stands None new pushed stands holds = subst (λ new. HoldsPushed new pushed) (sym stands) tt
-HoldsPushed-stands (Some c) None pushed stands holds = tt
-HoldsPushed-stands (Some c) (Some c') pushed stands holds = λ p there. stands.true_still p.digest (holds p there)
-
-true_of_held : (d : Digest) (held : Option (List ℕ)) (bytes : List ℕ) → held ≡ Some bytes → digest_of bytes ≡ d → IfSome held (λ b. digest_of b ≡ d)
-true_of_held d held bytes is same = subst (λ held. IfSome held (λ b. digest_of b ≡ d)) (sym is) same
-
--- one more blob that is held with its digest
-pub HoldsPushed-push : (contents : Option Contents) (pushed : List Pushed) (p : Pushed) (bytes : List ℕ) → digest_of bytes ≡ p.digest → Holds contents p.digest bytes → HoldsPushed contents pushed → HoldsPushed contents (pushed ++ p ∷ [])
-HoldsPushed-push None pushed p bytes same held holds = tt
-HoldsPushed-push (Some c) pushed p bytes same held holds = λ q there.
-    elim (Contains-push_cases pushed p q there) [
-      | inl before ↦ holds q before
-      | inr now ↦ subst (λ q. IsTrueTo c q.digest) now (true_of_held p.digest (bytes_of c p.digest) bytes held same)
-    ]
+use Rattle.hb_world.specs.StoreStands.{Stands}
+use Rattle.hb_world.specs.Worlds.{IsTrueTo}
 
 fetched : (d : Digest) (held told : Option (List ℕ)) (left size : ℕ) → IfSome held (λ b. digest_of b ≡ d) → size ≡ left → IsSomeAnd held (λ bytes. (told ≡ Some bytes) × (left ≡ length bytes)) → IsSomeAnd told (λ b. (digest_of b ≡ d) × (length b ≡ size))
 fetched d None told left size same is fetch = absurd fetch

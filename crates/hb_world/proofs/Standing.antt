@@ -11,7 +11,8 @@ use Rattle.hb_store.specs.declared.store.StoreFault.{StoreFault}
 use Rattle.hb_store.specs.declared.store.StoreFault.TheVariants.{Failed, Memory}
 use Rattle.hb_store.proofs.HeldBytes.{digest_cmp-equal, digest_cmp-same, bytes_of-holding, bytes_of-lapsed}
 use Rattle.hb_model.specs.Whole.{IsWhole}
-use Rattle.hb_world.specs.First.{Holds, IsHeld, IsTrueTo, Stands, StillHolds}
+use Rattle.hb_world.specs.StoreStands.{IsHeld, Stands, StillHolds}
+use Rattle.hb_world.specs.Worlds.{IsTrueTo}
 use Rattle.hb_world.proofs.StoreSteps.{IsWhole-counting, IsWhole-found, IsWhole-placed, IsWhole-stages}
 
 StillHolds-trans : (a b c : Contents) → StillHolds a b → StillHolds b c → StillHolds a c
@@ -22,7 +23,7 @@ StillHolds-trans a b c x y = record {
   whole_still = λ rows n t h. y.whole_still rows n t (x.whole_still rows n t h);
 }
 
-pub StillHolds-same : (c : Contents) → StillHolds c c
+StillHolds-same : (c : Contents) → StillHolds c c
 StillHolds-same c = record { true_still = λ d h. h; none_lapsing = λ e. e; held_still = λ e d h. h; whole_still = λ rows n t h. h }
 
 -- the same blobs and the same removals
@@ -136,7 +137,7 @@ StillHolds-placing id d bytes (Err Failed) found c same (false, false, is) = sub
 StillHolds-placing id d bytes (Err Memory) found c same effect = subst (StillHolds found) (sym effect) (StillHolds-same found)
 
 -- where the store tells its contents, the stage tells its bytes
-pub Stands-placing : {T : Type 0} (old : Option Contents) (now id : ℕ) (told : Option (List ℕ)) (d : Digest) (bytes : List ℕ) (result : Result T StoreFault) (new : Option Contents) → digest_of bytes ≡ d → IfSome old (λ c. told ≡ Some bytes) → Becomes old now (Placing id told d result) new → Stands old new
+Stands-placing : {T : Type 0} (old : Option Contents) (now id : ℕ) (told : Option (List ℕ)) (d : Digest) (bytes : List ℕ) (result : Result T StoreFault) (new : Option Contents) → digest_of bytes ≡ d → IfSome old (λ c. told ≡ Some bytes) → Becomes old now (Placing id told d result) new → Stands old new
 Stands-placing None now id told d bytes result new same is becomes = becomes
 Stands-placing (Some c) now id told d bytes result new same is becomes =
     Stands-becomes (Some c) now (Placing id (Some bytes) d result) new (λ found c. StillHolds-placing id d bytes result found c same) (subst (λ told. Becomes (Some c) now (Placing id told d result) new) is becomes)
@@ -147,21 +148,8 @@ bytes_of-placed c d bytes = bytes_of-holding c d d bytes ∙ ap (λ b. cond b (S
 placed_there : (id : ℕ) (d : Digest) (bytes : List ℕ) (found c : Contents) → c ≡ unstaged id (holding d bytes (counting d bytes found)) → bytes_of c d ≡ Some bytes
 placed_there id d bytes found c is = ap (λ c. bytes_of c d) is ∙ bytes_of-placed found d bytes
 
-pub Holds-placed : {T : Type 0} (old : Option Contents) (now id : ℕ) (told : Option (List ℕ)) (d : Digest) (bytes : List ℕ) (value : T) (new : Option Contents) → IfSome old (λ c. told ≡ Some bytes) → Becomes old now (Placing id told d (Ok value)) new → Holds new d bytes
-Holds-placed None now id told d bytes value new is becomes = subst (λ new. Holds new d bytes) (sym becomes) tt
-Holds-placed (Some c) now id told d bytes value None is becomes = tt
-Holds-placed (Some c) now id told d bytes value (Some c') is becomes =
-    let at = subst (λ told. Becomes (Some c) now (Placing id told d (Ok value)) (Some c')) is becomes in
-    placed_there id d bytes at.0 c' at.2
-
 pub Stands-unchanged : (old : Option Contents) (now : ℕ) (new : Option Contents) → Becomes old now Unchanged new → Stands old new
 Stands-unchanged old now new = Stands-becomes old now Unchanged new (λ found c e. subst (StillHolds found) (sym e) (StillHolds-same found))
-
-pub Stands-trans : (a b c : Option Contents) → Stands a b → Stands b c → Stands a c
-Stands-trans None b c x y = subst (λ b. Stands b c) x y
-Stands-trans (Some a) None c x y = absurd x
-Stands-trans (Some a) (Some b) None x y = y
-Stands-trans (Some a) (Some b) (Some c) x y = StillHolds-trans a b c x y
 
 -- the same of a stage whose bytes have the digest, and more that holds of them
 pub Stands-given : {T : Type 0} (P : List ℕ → Type 0) (old : Option Contents) (now id : ℕ) (told : Option (List ℕ)) (d : Digest) (result : Result T StoreFault) (new : Option Contents) → ((bytes : List ℕ) → P bytes → digest_of bytes ≡ d) → IfSome old (λ c. IsSomeAnd told P) → Becomes old now (Placing id told d result) new → Stands old new
@@ -169,8 +157,8 @@ Stands-given P None now id told d result new own given becomes = becomes
 Stands-given P (Some c) now id None d result new own given becomes = absurd given
 Stands-given P (Some c) now id (Some bytes) d result new own given becomes = Stands-placing (Some c) now id (Some bytes) d bytes result new (own bytes given) refl becomes
 
-pub Holds-given : {T : Type 0} (P : List ℕ → Type 0) (old : Option Contents) (now id : ℕ) (told : Option (List ℕ)) (d : Digest) (x : T) (new : Option Contents) → IfSome old (λ c. IsSomeAnd told P) → Becomes old now (Placing id told d (Ok x)) new → IfSome new (λ c. IsSomeAnd (bytes_of c d) P)
-Holds-given P None now id told d x new given becomes = subst (λ new. IfSome new (λ c. IsSomeAnd (bytes_of c d) P)) (sym becomes) tt
-Holds-given P (Some c) now id None d x new given becomes = absurd given
-Holds-given P (Some c) now id (Some bytes) d x None given becomes = tt
-Holds-given P (Some c) now id (Some bytes) d x (Some c') given becomes = subst (λ held. IsSomeAnd held P) (sym (Holds-placed (Some c) now id (Some bytes) d bytes x (Some c') refl becomes)) given
+pub held-given : {T : Type 0} (P : List ℕ → Type 0) (old : Option Contents) (now id : ℕ) (told : Option (List ℕ)) (d : Digest) (x : T) (new : Option Contents) → IfSome old (λ c. IsSomeAnd told P) → Becomes old now (Placing id told d (Ok x)) new → IfSome new (λ c. IsSomeAnd (bytes_of c d) P)
+held-given P None now id told d x new given becomes = subst (λ new. IfSome new (λ c. IsSomeAnd (bytes_of c d) P)) (sym becomes) tt
+held-given P (Some c) now id None d x new given becomes = absurd given
+held-given P (Some c) now id (Some bytes) d x None given becomes = tt
+held-given P (Some c) now id (Some bytes) d x (Some c') given becomes = subst (λ held. IsSomeAnd held P) (sym (placed_there id d bytes becomes.0 c' becomes.2)) given

@@ -1,5 +1,5 @@
 -- The events of a world that make no entry: stages that go out and come back, what is placed, and what is opened.
-use Rattle.std.proofs.Common.{◌≡◌, ◌≤◌, ◌+◌, ℕ, suc, true, false, not, cond, List, [], ◌∷◌, length, Option, Some, None, Result, Ok, Err, IfErr, IfOk, IfSome, IsSomeAnd, OnOk, is_some, nat_le, option_map, refl, sym, ap, subst, ◌∙◌, inl, inr, arith}
+use Rattle.std.proofs.Common.{◌≡◌, ◌≤◌, ◌+◌, ℕ, suc, true, false, not, cond, List, [], ◌∷◌, length, Option, Some, None, Result, Ok, Err, IfErr, IfOk, IfSome, IsSomeAnd, OnOk, is_some, nat_le, option_map, refl, sym, ap, subst, ◌∙◌, inl, arith}
 use Rattle.std.specs.List.{AllByRecursion}
 use Rattle.hb_text.specs.Digests.{digest_of}
 use Rattle.hb_text.specs.declared.digests.Digest.{Digest}
@@ -17,7 +17,7 @@ use Rattle.hb_model.specs.Sound.{HasLength, OneLength}
 use Rattle.hb_model.specs.Whole.{IsKept, IsWhole}
 use Rattle.hb_model.specs.Words.{WINDOW, last_kind, some_and}
 use Rattle.hb_desk.specs.Calls.{Call, Dropped, Gave, Number, Outcome, StageDropped, StagePlaced, StageTaken, plain}
-use Rattle.hb_desk.specs.Clause.{EventFrom, EventOf, is_fault}
+use Rattle.hb_desk.specs.Clause.{EventFrom, EventOf}
 use Rattle.hb_desk.specs.Events.{Event, acknowledged, entered, entry_of, happens}
 use Rattle.hb_desk.specs.Keeping.{state_of}
 use Rattle.hb_desk.specs.Notes.{is_sealed, sealed_at, without_sealed}
@@ -31,7 +31,7 @@ use Rattle.hb_desk.proofs.LegalReplies.{is_ask, no-entry}
 use Rattle.hb_plan.specs.BuiltAudits.{AllBuilt, NoneGone}
 use Rattle.hb_plan.proofs.BuiltAudits.{untaken}
 use Rattle.hb_plan.proofs.RowAnswers.{rows-answer}
-use Rattle.hb_world.specs.First.{Stands}
+use Rattle.hb_world.specs.StoreStands.{Stands}
 use Rattle.hb_world.specs.Storing.{IsStoreFault, RowsReply}
 use Rattle.hb_world.specs.Worlds.{IsTrueStore, IsWorld, RowsStand, Shown, view_of}
 use Rattle.hb_world.proofs.AskEvents.{mine-grows}
@@ -62,12 +62,6 @@ true-still : (old new : Option Contents) → Stands old new → IfSome old IsTru
 true-still None new stands h = subst (λ new. IfSome new IsTrueStore) (sym stands) tt
 true-still (Some c) None stands h = absurd stands
 true-still (Some c) (Some c') stands h = λ d. stands.true_still d (h d)
-
--- what was told is told
-pub still-told : (old new : Option Contents) → Stands old new → is_some new ≡ is_some old
-still-told None new stands = ap is_some stands
-still-told (Some c) None stands = absurd stands
-still-told (Some c) (Some c') stands = refl
 
 pub still-whole : (r : Tables) (n : Notes) (t : ℕ) (old : Option Contents) (c : Contents) → Stands old (Some c) → IfSome old (λ c. IsWhole r n c t) → IsWhole r n c t
 still-whole r n t None c stands h = cc

@@ -1,7 +1,7 @@
 pub mod Asking
-pub mod First
 pub mod Reading
 pub mod Remembering
 pub mod Starting
+pub mod StoreStands
 pub mod Storing
 pub mod Worlds

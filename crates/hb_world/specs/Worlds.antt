@@ -5,7 +5,8 @@ use Rattle.std.specs.Option.{option_map}
 use Rattle.hb_records.specs.Entries.{LAST_MOMENT}
 use Rattle.hb_records.specs.declared.notes.Notes.{Notes}
 use Rattle.hb_rows.specs.Tables.{Tables}
-use Rattle.hb_store.specs.Contents.{Contents}
+use Rattle.hb_store.specs.Contents.{Contents, bytes_of}
+use Rattle.hb_text.specs.Digests.{digest_of}
 use Rattle.hb_text.specs.declared.digests.Digest.{Digest}
 use Rattle.hb_model.specs.History.{Stands, latest}
 use Rattle.hb_model.specs.Sound.{OneLength}
@@ -13,7 +14,6 @@ use Rattle.hb_model.specs.Whole.{IsWhole}
 use Rattle.hb_desk.specs.Clause.{View}
 use Rattle.hb_desk.specs.Keeping.{state_of}
 use Rattle.hb_plan.specs.BuiltAudits.{AllBuilt, NoneGone}
-use Rattle.hb_world.specs.First.{IsTrueTo}
 
 -- its devices and its notes; how many entries the audit has, and had at the start; the greatest moment so far; and the
 -- number of the last entry since the start, or 0
@@ -58,6 +58,10 @@ pub record RowsStand (r : Tables) (w : Shown) : Type 0 where
   pub here : NoneGone w.notes
   pub later : latest r.audit ≤ w.moment
   pub count : w.entries ≡ length r.audit
+
+-- what is held under the digest has it
+abbrev pub IsTrueTo : Contents → Digest → Type 0
+IsTrueTo c d = IfSome (bytes_of c d) (λ bytes. digest_of bytes ≡ d)
 
 -- each content that is held has its digest
 abbrev pub IsTrueStore : Contents → Type 0

@@ -1,11 +1,8 @@
 //! The registry's state machine, over a keeper of rows and a store of contents.
 //!
-//! - [`World`]: its state. [`World::start`] reads the rows, refuses those that don't fit their audit, and gives rows
-//!   without an audit their first entry; [`World::close`] hands the devices back. It is a desk (`hb_desk`): each call
-//!   of it is one event, after which rows, notes and store fit one another (`specs/Worlds`).
-//! - [`first`]: its first form, which a talk uses. It knows which blobs were pushed to which project, and nothing else:
-//!   [`first::World::push_whole`] stores a blob and remembers it, and [`first::World::open_blob`] opens
-//!   one that was pushed.
+//! [`World`] is its state. [`World::start`] reads the rows, refuses those that don't fit their audit, and gives rows
+//! without an audit their first entry; [`World::close`] hands the devices back. It is a desk (`hb_desk`): each call
+//! of it is one event, after which rows, notes and store fit one another (`specs/Worlds`).
 //!
 //! It never waits and keeps nothing but what it is told.
 #![tactic(auto)]
@@ -14,7 +11,6 @@ mod asking;
 #[cfg(test)]
 mod desk_tests;
 mod events;
-pub mod first;
 mod looking;
 mod opens;
 mod reading;
@@ -25,8 +21,6 @@ mod staging;
 mod start_tests;
 mod starting;
 mod table_rows;
-#[cfg(test)]
-mod tests;
 mod world;
 
 pub use world::{StartFault, StartRefused, World, empty_devices_are_at_rest};

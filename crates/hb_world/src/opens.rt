@@ -5,7 +5,7 @@ ghost use Rattle.hb_records.specs.declared.notes.Notes.{Notes};
 ghost use Rattle.hb_store.specs.Calls.{Fetches};
 ghost use Rattle.hb_desk.specs.Calls.{BlobOpened, ManifestOpened, Content, plain};
 ghost use Rattle.hb_desk.specs.declared.refusals.Refusal.TheVariants.{Keeper as KeeperFailed, Storage, Spent};
-ghost use Rattle.hb_world.specs.First.{Stands};
+ghost use Rattle.hb_world.specs.StoreStands.{Stands};
 ghost use Rattle.hb_world.specs.Storing.{IsStoreFault, RowsReply};
 
 use crate::looking::{find_artifact, find_pair, has_project};

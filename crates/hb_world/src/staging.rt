@@ -9,7 +9,7 @@ ghost use Rattle.hb_desk.specs.Calls.{StageTaken, StageDropped, StageAt, Number,
 ghost use Rattle.hb_desk.specs.Notes.{is_out as stage_is_out, sealed_at};
 ghost use Rattle.hb_desk.specs.Noting.{handed_back, placing, taking_out};
 ghost use Rattle.hb_desk.specs.declared.refusals.Refusal.TheVariants.{Keeper as KeeperFailed, Storage, Spent};
-ghost use Rattle.hb_world.specs.First.{Stands};
+ghost use Rattle.hb_world.specs.StoreStands.{Stands};
 ghost use Rattle.hb_world.specs.Storing.{IsStoreFault, RowsReply, upload_over};
 
 use crate::looking::has_project;

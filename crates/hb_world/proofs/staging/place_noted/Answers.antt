@@ -1,8 +1,8 @@
-use Rattle.hb_world.proofs.Standing.{Holds-given, Stands-given}
+use Rattle.hb_world.proofs.Standing.{Stands-given, held-given}
 use Rattle.hb_world.proofs.staging.place_noted.Goals as goal
 
 pub returns-in-Ok-clause-held : goal.returns-in-Ok-clause-held
-returns-in-Ok-clause-held g c = Holds-given _ _ c.args.moment c.args.upload _ c.args.digest.now _ _ c.requires.bytes c.in-Ok.ensures.contents
+returns-in-Ok-clause-held g c = held-given _ _ c.args.moment c.args.upload _ c.args.digest.now _ _ c.requires.bytes c.in-Ok.ensures.contents
 
 pub returns-in-Ok-clause-stands : goal.returns-in-Ok-clause-stands
 returns-in-Ok-clause-stands g c = Stands-given _ _ c.args.moment c.args.upload _ c.args.digest.now _ _ (λ bytes h. h.0) c.requires.bytes c.in-Ok.ensures.contents
