@@ -1,0 +1,209 @@
+-- What came of the operations of requests, and their answers.
+use Rattle.std.proofs.Common.{◌≡◌, ◌≢◌, ◌⊎◌, if◌then◌else◌, ℕ, Bool, true, false, List, [], Option, Some, None, Result, Ok, Err, IfOk, IfSome, codes, inl, inr, refl, sym, ap, subst, ◌∙◌}
+use Rattle.hb_text.specs.Digests.{digest_of}
+use Rattle.hb_text.specs.declared.digests.Digest.{Digest}
+use Rattle.hb_text.specs.declared.references.Reference.{Reference}
+use Rattle.hb_records.specs.declared.puts.PutAsk.{PutAsk}
+use Rattle.hb_http.specs.AnswerHeads.{HasPhrase}
+use Rattle.hb_desk.specs.Clause.{View}
+use Rattle.hb_desk.specs.Points.{Point}
+use Rattle.hb_desk.specs.State.{State}
+use Rattle.hb_desk.specs.declared.answers.Answer.{Answer}
+use Rattle.hb_desk.specs.declared.refusals.Refusal.{Refusal}
+use Rattle.hb_desk.specs.declared.refusals.Refusal.TheVariants as refusal
+use Rattle.hb_upload.specs.Deciding.{decided}
+use Rattle.hb_upload.specs.Phases.{is_ended, place_at}
+use Rattle.hb_upload.specs.Places.{Calls, Parcel, Stopped, place_of}
+use Rattle.hb_upload.specs.Pushes.{PushParts, Went}
+use Rattle.hb_upload.specs.declared.phase.Phase.{Phase}
+use Rattle.hb_upload.specs.declared.phase.Phase.TheVariants as phase
+use Rattle.hb_upload.specs.declared.phase.Stop.{Stop}
+use Rattle.hb_upload.specs.declared.phase.Stop.TheVariants.{Pushed, WrongDigest, Refused}
+use Rattle.hb_ops.specs.Errors.{ErrorForm, error_answer, error_of, plain}
+use Rattle.hb_ops.specs.Gets.{GetParts, HasDigest, LeadTo, PhaseFits as GetFits, Went as GetWent, decided as got_by, read_of}
+use Rattle.hb_ops.specs.declared.gets.Got.{Got}
+use Rattle.hb_ops.specs.declared.gets.Got.TheVariants as got
+use Rattle.hb_ops.specs.declared.gets.Phase.TheVariants as get
+use Rattle.hb_manifest.specs.Forms.{manifest_form}
+use Rattle.hb_manifest.specs.declared.manifests.Manifest.{Manifest}
+use Rattle.hb_manifest.specs.declared.manifests.ManifestFault.{ManifestFault}
+use Rattle.hb_manifest.specs.declared.manifests.ManifestFault.TheVariants as manifest
+use Rattle.hb_talk.specs.Driving.{Driven, IsPut, IsRefused, Worked, parcel_of}
+use Rattle.hb_talk.specs.Tasks.{Task, got_answer, location_of, manifest_error, manifest_task, names_other, push_answer, put_of, task_of, wrong_digest}
+use Rattle.hb_talk.specs.Tasks.Task.{Pushes, Gets, Refuses}
+use Rattle.hb_talk.specs.declared.wanted.Wanted.TheVariants.{PutManifest}
+
+-- ---- each status that is answered has a phrase
+pub refused-phrase : (t : ℕ) (r : Refusal) → HasPhrase (error_of t r).status
+refused-phrase t refusal.Memory = refl
+refused-phrase t refusal.Keeper = refl
+refused-phrase t refusal.Storage = refl
+refused-phrase t refusal.Spent = refl
+refused-phrase t refusal.NoProject = refl
+refused-phrase t refusal.NoRepo = refl
+refused-phrase t refusal.BlobUnknown = refl
+refused-phrase t refusal.UploadUnknown = refl
+refused-phrase t (refusal.Busy a) = refl
+refused-phrase t (refusal.OutOfOrder a) = refl
+refused-phrase t (refusal.MissingRef a) = refl
+refused-phrase t (refusal.MissingChild a) = refl
+refused-phrase t (refusal.Immutable a) = refl
+refused-phrase t (refusal.HasParent a) = refl
+refused-phrase t (refusal.OverLimit a b c) = refl
+refused-phrase t (refusal.Collecting a) = refl
+refused-phrase t (refusal.Raced a b) = refl
+refused-phrase t refusal.ManifestUnknown = refl
+refused-phrase t (refusal.Stale a) = refl
+refused-phrase t (refusal.Referenced a b) = refl
+refused-phrase t (refusal.Young a) = refl
+refused-phrase t refusal.JobUnknown = refl
+refused-phrase t (refusal.JobHeld a) = refl
+refused-phrase t refusal.NotSent = refl
+refused-phrase t refusal.NotPlaced = refl
+refused-phrase t refusal.Tagged = refl
+refused-phrase t refusal.Unfinished = refl
+refused-phrase t refusal.JobDone = refl
+refused-phrase t (refusal.Late a) = refl
+refused-phrase t refusal.Sent = refl
+
+-- a fault without a detail
+pub plain-manifest : (fault : ManifestFault) → (fault ≡ manifest.MediaUnknown) ⊎ ((fault ≡ manifest.NotJson) ⊎ ((fault ≡ manifest.NoSchema) ⊎ (fault ≡ manifest.TooMany))) → manifest_error fault ≡ plain 400 (codes "MANIFEST_INVALID")
+plain-manifest fault (inl is) = ap manifest_error is
+plain-manifest fault (inr (inl is)) = ap manifest_error is
+plain-manifest fault (inr (inr (inl is))) = ap manifest_error is
+plain-manifest fault (inr (inr (inr is))) = ap manifest_error is
+
+pub manifest-phrase : (fault : ManifestFault) → HasPhrase (manifest_error fault).status
+manifest-phrase (manifest.BadDescriptor place) = refl
+manifest-phrase manifest.TooLong = refl
+manifest-phrase manifest.Memory = refl
+manifest-phrase manifest.MediaUnknown = refl
+manifest-phrase manifest.NotJson = refl
+manifest-phrase manifest.NoSchema = refl
+manifest-phrase manifest.TooMany = refl
+
+pub push-phrase : (b : Parcel) (stop : Stop) → HasPhrase (push_answer b stop).status
+push-phrase b Pushed = refl
+push-phrase b (WrongDigest found) = refl
+push-phrase b (Refused r t) = refused-phrase t r
+
+pub got-phrase : (x : Got) → HasPhrase (got_answer x).status
+got-phrase (got.Content d media bytes) = refl
+got-phrase (got.Refused r t) = refused-phrase t r
+
+-- ---- a task without an event
+pub worked-none : {E : Type 0} (Streams : Option Refusal → Type 0) (task : Task) (v : View) (state : Option State) (e : E) → IfSome state (λ s. Worked Streams task v v (Err e))
+worked-none Streams task v None e = tt
+worked-none Streams task v (Some s) e = record { points = []; chain = refl; done = tt }
+
+pub refused-worked : {E : Type 0} (Streams : Option Refusal → Type 0) (error : ErrorForm) (v : View) (state : Option State) (result : Result Answer E) → IfOk result (λ a. a ≡ error_answer error) → IfSome state (λ s. Worked Streams (Refuses error) v v result)
+refused-worked Streams error v None result is = tt
+refused-worked Streams error v (Some s) (Err e) is = record { points = []; chain = refl; done = tt }
+refused-worked Streams error v (Some s) (Ok a) is = record { points = []; chain = refl; done = ([], record { makes = refl; answers = is; reads = tt; streams = tt }) }
+
+-- ---- a manifest that was read
+module _ (name : List ℕ) (r : Reference) (media : Option (List ℕ)) (body : List ℕ) (found : Digest) (found_is : found ≡ digest_of body) where
+  by_reference : Bool → Task
+  by_reference b = if b then Refuses (wrong_digest (digest_of body)) else manifest_task name r body (manifest_form media body)
+
+  decided-by : (b : Bool) → names_other r found ≡ b → task_of (PutManifest name r) media body ≡ by_reference b
+  unfolding by_reference
+  decided-by b is = ap (λ b. if b then Refuses (wrong_digest (digest_of body)) else manifest_task name r body (manifest_form media body)) (ap (names_other r) (sym found_is) ∙ is)
+
+  pub refused-other : (a : Answer) → names_other r found ≡ true → a ≡ error_answer (wrong_digest found) → IsRefused (task_of (PutManifest name r) media body) a
+  unfolding by_reference
+  refused-other a other is = record {
+    error = wrong_digest found;
+    task_is = decided-by true other ∙ ap (λ d. Refuses (wrong_digest d)) (sym found_is);
+    answer_is = is;
+    phrase = subst (λ a. HasPhrase a.status) (sym is) refl;
+  }
+
+  pub refused-form : (a : Answer) (fault : ManifestFault) → names_other r found ≡ false → (fault ≢ manifest.Memory → manifest_form media body ≡ Err fault) → (fault ≢ manifest.Memory) × (a ≡ error_answer (manifest_error fault)) → IsRefused (task_of (PutManifest name r) media body) a
+  unfolding by_reference
+  refused-form a fault same form is = record {
+    error = manifest_error fault;
+    task_is = decided-by false same ∙ ap (manifest_task name r body) (form is.0);
+    answer_is = is.1;
+    phrase = subst (λ a. HasPhrase a.status) (sym is.1) (manifest-phrase fault);
+  }
+
+  pub pushes-read : (put : PutAsk) (m : Manifest) → names_other r found ≡ false → manifest_form media body ≡ Ok m → put ≡ put_of name r body m → IsPut body put × (task_of (PutManifest name r) media body ≡ Pushes (parcel_of put body))
+  unfolding by_reference
+  pushes-read put m same form is = (
+    record { digest = ap (λ p. p.digest) is; size = ap (λ p. p.size) is },
+    decided-by false same ∙ (ap (manifest_task name r body) form ∙ ap (λ p. Pushes (parcel_of p body)) (sym is)),
+  )
+
+-- the task that is pushed is the manifest's
+pub as-task : {E : Type 0} (Streams : Option Refusal → Type 0) (task task' : Task) (old new : View) (state : Option State) (result : Result Answer E) → task ≡ task' → IfSome state (λ s. Worked Streams task' old new result) → IfSome state (λ s. Worked Streams task old new result)
+as-task Streams task task' old new state result same worked = subst (λ task. IfSome state (λ s. Worked Streams task old new result)) (sym same) worked
+
+pub refused-task : (E : Type 0) (Streams : Option Refusal → Type 0) (task : Task) (a : Answer) (v : View) (state : Option State) → IsRefused task a → IfSome state (λ s. Worked {E = E} Streams task v v (Ok a))
+refused-task E Streams task a v state is = as-task Streams task (Refuses is.error) v v state (Ok a) is.task_is (refused-worked Streams is.error v state (Ok a) is.answer_is)
+
+-- ---- a push that was driven to its end
+stopped-at : {T : Type 0} (p : Phase T) → is_ended p ≡ true → (stop : Stop) × (place_at p ≡ Stopped stop)
+stopped-at (phase.Ended stop) is = (stop, refl)
+stopped-at phase.Begin is = cc is
+stopped-at (phase.Stage u) is = cc is
+stopped-at (phase.Seal u s) is = cc is
+stopped-at (phase.Place u s) is = cc is
+stopped-at (phase.Settle u) is = cc is
+stopped-at (phase.End u s stop) is = cc is
+stopped-at (phase.Drop u s stop) is = cc is
+
+pub push-worked : {T E : Type 0} (Streams : Option Refusal → Type 0) (begun push : PushParts T) (old new : View) (state : Option State) (stop : Stop) (result : Result Answer E) → IfSome state (λ s. Driven Streams old new (Went begun push)) → is_ended push.phase ≡ true → ((points : List Point) → Went begun push points → stop ≡ decided push.parcel points) → IfOk result (λ a. a ≡ push_answer begun.parcel stop) → IfSome state (λ s. Worked Streams (Pushes begun.parcel) old new result)
+push-worked Streams begun push old new None stop result driven ended is answer = tt
+push-worked Streams begun push old new (Some s) stop (Err e) driven ended is answer = record { points = driven.points; chain = driven.chain; done = tt }
+push-worked Streams begun push old new (Some s) stop (Ok a) driven ended is answer =
+    let went = driven.went in
+    let at = stopped-at push.phase ended in
+    record {
+      points = driven.points;
+      chain = driven.chain;
+      done = (
+        [],
+        record {
+          makes = subst (λ b. Calls b driven.points × ((stop : Stop) × (place_of b driven.points ≡ Stopped stop))) went.same (went.calls, (at.0, sym went.at ∙ at.1));
+          answers = answer ∙ ap (λ stop. push_answer begun.parcel stop) (is driven.points went ∙ ap (λ b. decided b driven.points) went.same);
+          reads = tt;
+          streams = driven.streams;
+        },
+      );
+    }
+
+-- its answer, at the location and with the digest of what was pushed
+pub answer-for : {E : Type 0} (b : Parcel) (stop : Stop) (digest : Digest) (location : List ℕ) (result : Result Answer E) → location ≡ location_of b → b.digest ≡ digest → IfOk result (λ a. (b : Parcel) → location ≡ location_of b → b.digest ≡ digest → a ≡ push_answer b stop) → IfOk result (λ a. a ≡ push_answer b stop)
+answer-for b stop digest location (Err e) at is answers = tt
+answer-for b stop digest location (Ok a) at is answers = answers b at is
+
+pub phrase-for : {E : Type 0} (x : Answer) (result : Result Answer E) → IfOk result (λ a. a ≡ x) → HasPhrase x.status → IfOk result (λ a. HasPhrase a.status)
+phrase-for x (Err e) is has = tt
+phrase-for x (Ok a) is has = subst (λ a. HasPhrase a.status) (sym is) has
+
+-- both a cause and a clause of what is Ok
+pub ok-both : {T E P : Type 0} (Q : T → Type 0) (result : Result T E) → P → IfOk result Q → IfOk result (λ x. P × Q x)
+ok-both Q (Ok x) p q = (p, q)
+ok-both Q (Err e) p q = tt
+
+-- ---- a get
+pub get-worked : {E : Type 0} (Streams : Option Refusal → Type 0) (begun end : GetParts) (old new : View) (state : Option State) (x : Got) (result : Result Answer E) → IfSome state (λ s. Driven Streams old new (GetWent begun end)) → end.phase ≡ get.Ended x → ((points : List Point) → GetWent begun end points → x ≡ got_by (read_of x) points) → GetFits end.phase new → new.told_bytes ≡ old.told_bytes → IfOk result (λ a. a ≡ got_answer x) → IfSome state (λ s. Worked Streams (Gets begun.sought) old new result)
+get-worked Streams begun end old new None x result driven ended is fits told answer = tt
+get-worked Streams begun end old new (Some s) x (Err e) driven ended is fits told answer = record { points = driven.points; chain = driven.chain; done = tt }
+get-worked Streams begun end old new (Some s) x (Ok a) driven ended is fits told answer =
+    let went = driven.went in
+    let same = is driven.points went in
+    record {
+      points = driven.points;
+      chain = driven.chain;
+      done = (
+        read_of x,
+        record {
+          makes = (x, subst (λ sought. LeadTo sought (get.Ended x) driven.points) went.same (subst (λ p. LeadTo end.sought p driven.points) ended went.lead));
+          answers = answer ∙ ap (λ x. got_answer x) same;
+          reads = subst (λ x. HasDigest old.told_bytes x) same (subst (λ told. HasDigest told x) told (subst (λ p. GetFits p new) ended fits));
+          streams = driven.streams;
+        },
+      );
+    }

@@ -1,0 +1,10 @@
+pub mod Answering
+pub mod Chains
+pub mod Lessening
+pub mod Requests
+pub mod Rests
+pub mod Served
+pub mod Streams
+pub mod Talking
+pub mod Turning
+pub mod Wants

@@ -1,0 +1,71 @@
+-- What was answered to a request that has come.
+use Rattle.std.proofs.Common.{◌≡◌, ◌<◌, ◌+◌, ℕ, Bool, true, List, [], ◌++◌, Option, Some, None, Result, Ok, Err, IfOk, IfSome, MatchBool, refl, sym, ap, subst, ◌∙◌, inl, inr, arith}
+use Rattle.hb_http.specs.Readings.{Given}
+use Rattle.hb_http.specs.Standing.{Standing}
+use Rattle.hb_desk.specs.Chains.{Chain}
+use Rattle.hb_desk.specs.Clause.{View}
+use Rattle.hb_desk.specs.State.{State}
+use Rattle.hb_desk.specs.declared.answers.Answer.{Answer}
+use Rattle.hb_desk.specs.declared.refusals.Refusal.{Refusal}
+use Rattle.hb_ops.specs.Errors.{error_answer}
+use Rattle.hb_talk.specs.Driving.{Worked}
+use Rattle.hb_talk.specs.Progress.{Came, NextTurn, Reads, Served}
+use Rattle.hb_talk.specs.Tasks.{task_of, unsupported}
+use Rattle.hb_talk.specs.Texts.{answer_text}
+use Rattle.hb_talk.specs.Turns.{AnswersTo, IsDone, Turn}
+use Rattle.hb_talk.specs.Wanting.{IsLast, IsServed, Serves, media_of}
+use Rattle.hb_talk.specs.declared.coming.Coming.{Coming}
+use Rattle.hb_talk.specs.declared.ends.Turned.TheVariants.{More}
+use Rattle.hb_talk.specs.declared.wanted.Wanted.{Wanted}
+
+-- the task of a request that is served was done
+pub served-task : {E : Type 0} (Streams : Option Refusal → Type 0) (g : Given) (w : Wanted) (media : Option (List ℕ)) (body : List ℕ) (old new : View) (state : Option State) (result : Result Answer E) → Serves g.head w → media ≡ media_of g.head → body ≡ g.content → IfSome state (λ s. Worked Streams (task_of w media body) old new result) → IfSome state (λ s. Served Streams old new g result)
+served-task Streams g w media body old new None result serves media_is body_is worked = tt
+served-task Streams g w media body old new (Some s) (Err e) serves media_is body_is worked = record { points = worked.points; chain = worked.chain; answers = tt }
+served-task Streams g w media body old new (Some s) (Ok a) serves media_is body_is worked = record {
+  points = worked.points;
+  chain = worked.chain;
+  answers = (worked.done.0, inl (w, serves, subst (λ media. IsDone Streams old.told_bytes (task_of w media g.content) worked.points worked.done.0 a) media_is (subst (λ body. IsDone Streams old.told_bytes (task_of w media body) worked.points worked.done.0 a) body_is worked.done.1)));
+}
+
+-- another one is refused at once
+pub unserved-answer : {E : Type 0} (Streams : Option Refusal → Type 0) (g : Given) (v : View) (state : Option State) (result : Result Answer E) → ¬ (IsServed g.head) → IfOk result (λ a. a ≡ error_answer unsupported) → IfSome state (λ s. Served Streams v v g result)
+unserved-answer Streams g v None result not_served is = tt
+unserved-answer Streams g v (Some s) (Err e) not_served is = record { points = []; chain = refl; answers = tt }
+unserved-answer Streams g v (Some s) (Ok a) not_served is = record { points = []; chain = refl; answers = ([], inr (not_served, refl, is)) }
+
+-- the turn of a request that was answered
+pub record TurnOf (Streams : Option Refusal → Type 0) (old new : View) (g : Given) (closes : Bool) (answer : Answer) : Type 0 where
+  pub turn : Turn
+  pub next : NextTurn Streams old new g turn
+  pub closes_is : turn.closes ≡ closes
+  pub answer_is : turn.answer ≡ answer
+
+pub turn-of : {E : Type 0} (Streams : Option Refusal → Type 0) (old new : View) (g : Given) (closes : Bool) (answer : Answer) (result : Result Answer E) → result ≡ Ok answer → MatchBool closes (IsLast g.head) (¬ (IsLast g.head)) → IfSome old.state (λ s. Served Streams old new g result) → TurnOf Streams old new g closes answer
+turn-of {E} Streams old new g closes answer result is last served = go old.state refl (subst (λ result. IfSome old.state (λ s. Served Streams old new g result)) is served)
+  where
+    go : (state : Option State) → old.state ≡ state → IfSome state (λ s. Served {E = E} Streams old new g (Ok answer)) → TurnOf Streams old new g closes answer
+    go None none served = record {
+      turn = record { given = g; points = []; read = []; answer = answer; closes = closes };
+      next = record { given = refl; closes = last; desk = subst (λ state. IfSome state (λ s. Chain old [] new × AnswersTo Streams old.told_bytes g [] [] answer)) (sym none) tt };
+      closes_is = refl;
+      answer_is = refl;
+    }
+    go (Some s) some served = record {
+      turn = record { given = g; points = served.points; read = served.answers.0; answer = answer; closes = closes };
+      next = record { given = refl; closes = last; desk = subst (λ state. IfSome state (λ s. Chain old served.points new × AnswersTo Streams old.told_bytes g served.points served.answers.0 answer)) (sym some) (served.chain, served.answers.1) };
+      closes_is = refl;
+      answer_is = refl;
+    }
+
+-- its text is what was written, or a part of that
+pub turn-text : (Wrote : List ℕ → Type 0) (t : Turn) (closes : Bool) (answer : Answer) (text : List ℕ) → t.closes ≡ closes → t.answer ≡ answer → text ≡ answer_text closes answer → Wrote text → Wrote (answer_text t.closes t.answer)
+turn-text Wrote t closes answer text closes_is answer_is is wrote = subst Wrote (is ∙ (ap (λ b. answer_text b answer) (sym closes_is) ∙ ap (answer_text t.closes) (sym answer_is))) wrote
+
+-- ---- a read
+pub came-reads : (s s' : Standing) (coming : Option Coming) (taken n : ℕ) (left rest : Option (List ℕ)) (ended ended' : Bool) → Came s s' left rest ended ended' n → Reads (record { standing = s; coming = coming; taken = taken }) (record { standing = s'; coming = coming; taken = taken + n }) left rest ended ended' More
+came-reads s s' coming taken n left rest ended ended' (inl closed) = inl (closed.1, closed.2, ap (λ (s : Standing). record { standing = s; coming = coming; taken = taken + n }) closed.3 ∙ ap (λ k. record { standing = record { place = s.place; body = s.body; waiting = s.waiting; closed = true }; coming = coming; taken = k }) (none closed.0))
+  where
+    none : n ≡ 0 → taken + n ≡ taken
+    none is = omega (arith, is)
+came-reads s s' coming taken n left rest ended ended' (inr came) = inr (came.0, subst (λ n. 0 < n) (sym came.1) came.2, came.3, came.4, ap (λ (s : Standing). record { standing = s; coming = coming; taken = taken + n }) came.5 ∙ ap (λ n. record { standing = record { place = s.place; body = s.body; waiting = s.waiting ++ came.0; closed = s.closed }; coming = coming; taken = taken + n }) (sym came.1))

@@ -1,0 +1,346 @@
+-- What a turn makes of a talk.
+use Rattle.std.proofs.Common.{◌≡◌, ◌≢◌, ◌≤◌, ◌+◌, ◌^◌, ℕ, Bool, true, false, List, [], ◌∷◌, ◌++◌, length, Option, Some, None, IfSome, MatchBool, refl, sym, ap, subst, ◌∙◌, inl, inr, arith, append_assoc, append-nil, length-append}
+use Rattle.hb_outside.specs.Streams.{Gives, Writes, WritesPart}
+use Rattle.hb_http.specs.Heads.{HasTooManyHeaders, IsHeadTooLong}
+use Rattle.hb_http.specs.Parts.{HoldsNoPart, IsBad}
+use Rattle.hb_http.specs.Readings.{AreRequests, Given, HasRead, IsBegun, IsBodyText}
+use Rattle.hb_http.specs.Requests.{HasNoRequest, Request, RequestsOf}
+use Rattle.hb_http.specs.Standing.{Standing}
+use Rattle.hb_http.specs.declared.places.Place.{Place}
+use Rattle.hb_http.specs.declared.places.Place.TheVariants.{Between, Counted, Chunked}
+use Rattle.hb_http.proofs.Each.{all_push}
+use Rattle.hb_http.proofs.RequestLaws.{HasNoHead-no_request}
+use Rattle.hb_desk.specs.Chains.{Chain}
+use Rattle.hb_desk.specs.Clause.{View}
+use Rattle.hb_desk.specs.Points.{Point}
+use Rattle.hb_desk.specs.State.{State}
+use Rattle.hb_desk.specs.declared.refusals.Refusal.{Refusal}
+use Rattle.hb_talk.specs.Progress.{Comes, NextTurn, Progress, Reads, TalkParts}
+use Rattle.hb_talk.specs.Talks.{AtDesk, BeginWith, Closes, HasCause, Moment, Talked, Unanswered, Wrote}
+use Rattle.hb_talk.specs.Talks as talks
+use Rattle.hb_talk.specs.Texts.{answer_text}
+use Rattle.hb_talk.specs.Turns.{Answers, ClosesBy, Turn, given_by, points_of, turns_text}
+use Rattle.hb_talk.specs.Wanting.{IsLast}
+use Rattle.hb_talk.specs.declared.coming.Coming.{Coming}
+use Rattle.hb_talk.specs.declared.ends.TalkEnd.{TalkEnd}
+use Rattle.hb_talk.specs.declared.ends.TalkEnd.TheVariants as end
+use Rattle.hb_talk.specs.declared.ends.Turned.TheVariants.{More, Ended}
+use Rattle.hb_talk.proofs.Chains.{chain-append, chain-bytes, chain-told}
+use Rattle.hb_talk.proofs.Requests.{all-of, all-to-last, begun-some, front-of}
+use Rattle.hb_talk.proofs.Rests.{many-none, rest-bad, rest-none}
+use Rattle.hb_talk.proofs.Streams.{Gives-append, Gives-none, Writes-append, Writes-none, WritesPart-append}
+
+-- ---- lists of turns
+given_by-push : (turns : List Turn) (t : Turn) → given_by (turns ++ t ∷ []) ≡ given_by turns ++ t.given ∷ []
+given_by-push [] t = refl
+given_by-push (u ∷ turns) t = ap (λ gs. u.given ∷ gs) (given_by-push turns t)
+
+turns_text-push : (turns : List Turn) (t : Turn) → turns_text (turns ++ t ∷ []) ≡ turns_text turns ++ answer_text t.closes t.answer
+turns_text-push [] t = append-nil (answer_text t.closes t.answer)
+turns_text-push (u ∷ turns) t = ap (λ text. answer_text u.closes u.answer ++ text) (turns_text-push turns t) ∙ sym (append_assoc (answer_text u.closes u.answer) (turns_text turns) (answer_text t.closes t.answer))
+
+points_of-push : (turns : List Turn) (t : Turn) → points_of (turns ++ t ∷ []) ≡ t.points ++ points_of turns
+points_of-push [] t = sym (append-nil t.points)
+points_of-push (u ∷ turns) t = ap (λ points. points ++ u.points) (points_of-push turns t) ∙ append_assoc t.points (points_of turns) u.points
+
+-- ---- at the start
+pub progress-start : (Streams : Option Refusal → Type 0) (now : Moment) (talk : TalkParts) → talk.standing ≡ record { place = Between; body = []; waiting = []; closed = false } → talk.coming ≡ None → talk.taken ≡ 0 → Progress Streams now now talk
+progress-start Streams now talk fresh coming taken = record {
+  turns = [];
+  given = None;
+  gone = [];
+  gives = subst (λ (s : Standing). Gives now.left now.left s.waiting) (sym fresh) (Gives-none now.left);
+  count = taken ∙ ap (λ (s : Standing). length s.waiting) (sym fresh);
+  reads = subst (λ (s : Standing). HasRead [] None [] s.place) (sym fresh) (record { whole = []; begun = []; text = refl; are_whole = refl; is_begun = refl });
+  comes = subst (λ c. Comes c None) (sym coming) tt;
+  open_ = tt;
+  closes = tt;
+  written = Writes-none now.held;
+  ended = λ closed. let both : false ≡ true = sym (ap (λ (s : Standing). s.closed) fresh) ∙ closed in cc both;
+  desk = none now.view.state;
+}
+  where
+    none : (state : Option State) → IfSome state (λ s. AtDesk Streams now.view now.view [] [])
+    none None = tt
+    none (Some s) = record { chain = refl; answers = tt }
+
+-- ---- a part of a request
+module _ (Streams : Option Refusal → Type 0) (start now : Moment) (talk : TalkParts) (so_far : Progress Streams start now talk) where
+  -- the bytes that have come are the same, however many of them were taken apart
+  came : (gone : List ℕ) (s' : Standing) → talk.standing.waiting ≡ gone ++ s'.waiting → (so_far.gone ++ gone) ++ s'.waiting ≡ so_far.gone ++ talk.standing.waiting
+  came gone s' text = append_assoc so_far.gone gone s'.waiting ∙ ap (λ b. so_far.gone ++ b) (sym text)
+
+  -- the session took a part that ended no request
+  pub parted : (gone : List ℕ) (s' : Standing) (coming : Option Coming) (given : Option Given) → talk.standing.waiting ≡ gone ++ s'.waiting → HasRead (given_by so_far.turns) given (so_far.gone ++ gone) s'.place → Comes coming given → s'.closed ≡ talk.standing.closed → Progress Streams start now (record { standing = s'; coming = coming; taken = talk.taken })
+  parted gone s' coming given text reads comes closed = record {
+    turns = so_far.turns;
+    given = given;
+    gone = so_far.gone ++ gone;
+    gives = subst (λ b. Gives start.left now.left b) (sym (came gone s' text)) so_far.gives;
+    count = so_far.count ∙ ap (λ b. length b) (sym (came gone s' text));
+    reads = reads;
+    comes = comes;
+    open_ = so_far.open_;
+    closes = so_far.closes;
+    written = so_far.written;
+    ended = λ is. so_far.ended (sym closed ∙ is);
+    desk = so_far.desk;
+  }
+
+  -- ---- a read
+  pub read-on : (talk' : TalkParts) (rest : Option (List ℕ)) (ended : Bool) → Reads talk talk' now.left rest now.ended ended More → Progress Streams start (record { view = now.view; left = rest; ended = ended; held = now.held }) talk'
+  read-on talk' rest ended (inl closed) = subst (Progress Streams start (record { view = now.view; left = rest; ended = ended; held = now.held })) (sym closed.2) (record {
+    turns = so_far.turns;
+    given = so_far.given;
+    gone = so_far.gone;
+    gives = subst (λ b. Gives start.left rest b) (append-nil (so_far.gone ++ talk.standing.waiting)) (Gives-append start.left now.left rest (so_far.gone ++ talk.standing.waiting) [] so_far.gives closed.0);
+    count = so_far.count;
+    reads = so_far.reads;
+    comes = so_far.comes;
+    open_ = so_far.open_;
+    closes = so_far.closes;
+    written = so_far.written;
+    ended = λ is. closed.1;
+    desk = so_far.desk;
+  })
+  read-on talk' rest ended (inr came) =
+      let piece = came.0 in
+      let joined : so_far.gone ++ (talk.standing.waiting ++ piece) ≡ (so_far.gone ++ talk.standing.waiting) ++ piece = sym (append_assoc so_far.gone talk.standing.waiting piece) in
+      subst (Progress Streams start (record { view = now.view; left = rest; ended = ended; held = now.held })) (sym came.4) (record {
+        turns = so_far.turns;
+        given = so_far.given;
+        gone = so_far.gone;
+        gives = subst (λ b. Gives start.left rest b) (sym joined) (Gives-append start.left now.left rest (so_far.gone ++ talk.standing.waiting) piece so_far.gives came.2);
+        count = ap (λ n. n + length piece) so_far.count ∙ sym (length-append (so_far.gone ++ talk.standing.waiting) piece) ∙ ap (λ b. length b) (sym joined);
+        reads = so_far.reads;
+        comes = so_far.comes;
+        open_ = so_far.open_;
+        closes = so_far.closes;
+        written = so_far.written;
+        ended = λ is. came.3 ∙ so_far.ended is;
+        desk = so_far.desk;
+      })
+
+  -- ---- ends without a further answer
+  abbrev pub bytes : List ℕ
+  bytes = so_far.gone ++ talk.standing.waiting
+
+  abbrev pub rest : List ℕ
+  rest = so_far.reads.begun ++ talk.standing.waiting
+
+  few : talk.taken ≤ 2 ^ 62 → length bytes ≤ 2 ^ 62
+  few most = subst (λ n. n ≤ 2 ^ 62) so_far.count most
+
+  -- no further request stands in the bytes
+  ended-none : (e : TalkEnd) → talk.taken ≤ 2 ^ 62 → HasNoRequest IsBodyText rest → ((rs : List Request) → RequestsOf IsBodyText Closes bytes rs rest → talks.Reads e bytes rs rest) → (Writes start.held now.held (turns_text so_far.turns) → Wrote e start.held now.held (turns_text so_far.turns)) → HasCause e now.ended bytes so_far.turns rest → Unanswered e [] → Talked Streams start now e
+  ended-none e most none reads wrote cause left =
+      let all = all-of so_far.turns so_far.given so_far.gone talk.standing.waiting talk.standing.place so_far.reads so_far.open_ so_far.closes none in
+      record {
+        turns = so_far.turns;
+        requests = all.requests;
+        taken = bytes;
+        rest = rest;
+        points = [];
+        gives = so_far.gives;
+        few = few most;
+        given = all.given;
+        reads = reads all.requests all.reads;
+        closes = so_far.closes;
+        written = wrote so_far.written;
+        cause = cause;
+        left = left;
+        desk = so_far.desk;
+      }
+
+  pub ended-bad : talk.taken ≤ 2 ^ 62 → HasNoRequest IsBodyText rest → Talked Streams start now end.Bad
+  ended-bad most none = ended-none end.Bad most none (λ rs h. h) (λ h. h) tt refl
+
+  pub bad-ends : talk.taken ≤ 2 ^ 62 → IsBad talk.standing.place talk.standing.waiting → Talked Streams start now end.Bad
+  bad-ends most bad = ended-bad most (rest-bad talk.standing.place so_far.given so_far.reads.begun talk.standing.waiting so_far.reads.is_begun bad)
+
+  -- between two requests the rest is what waits
+  rest-waits : talk.standing.place ≡ Between → rest ≡ talk.standing.waiting
+  rest-waits at = ap (λ b. b ++ talk.standing.waiting) (nothing so_far.given (subst (λ p. IsBegun p so_far.given so_far.reads.begun) at so_far.reads.is_begun))
+    where
+      nothing : (given : Option Given) → IsBegun Between given so_far.reads.begun → so_far.reads.begun ≡ []
+      nothing None is = is
+      nothing (Some g) is = absurd is
+
+  pub many-ends : talk.taken ≤ 2 ^ 62 → talk.standing.place ≡ Between → HasTooManyHeaders talk.standing.waiting → Talked Streams start now end.Bad
+  many-ends most at many = ended-bad most (subst (HasNoRequest IsBodyText) (sym (rest-waits at)) (many-none talk.standing.waiting many))
+
+  pub long-ends : talk.taken ≤ 2 ^ 62 → talk.standing.place ≡ Between → IsHeadTooLong talk.standing.waiting → Talked Streams start now end.Bad
+  long-ends most at long = ended-bad most (subst (HasNoRequest IsBodyText) (sym (rest-waits at)) (HasNoHead-no_request IsBodyText talk.standing.waiting long.1))
+
+  none-left : HoldsNoPart talk.standing.place talk.standing.waiting → HasNoRequest IsBodyText rest
+  none-left none = rest-none talk.standing.place so_far.given so_far.reads.begun talk.standing.waiting so_far.reads.is_begun none
+
+  pub input-ends : talk.taken ≤ 2 ^ 62 → talk.standing.closed ≡ true → HoldsNoPart talk.standing.place talk.standing.waiting → talk.standing.place ≡ Between → talk.standing.waiting ≡ [] → Talked Streams start now end.Closed
+  input-ends most closed none at empty = ended-none end.Closed most (none-left none) (λ rs h. h) (λ h. h) (rest-waits at ∙ empty, inl (so_far.ended closed)) refl
+
+  pub cut-ends : talk.taken ≤ 2 ^ 62 → talk.standing.closed ≡ true → (talk.standing.place ≡ Between → talk.standing.waiting ≢ []) → HoldsNoPart talk.standing.place talk.standing.waiting → Talked Streams start now end.Cut
+  cut-ends most closed some none = ended-none end.Cut most (none-left none) (λ rs h. h) (λ h. h) (left, so_far.ended closed) refl
+    where
+      front-nil : (a b : List ℕ) → a ++ b ≡ [] → a ≡ []
+      front-nil [] b is = refl
+      front-nil (x ∷ a) b is = absurd (let none : length ((x ∷ a) ++ b) ≡ 0 = ap (λ l. length l) is in omega (arith, none))
+
+      go : (place : Place) (given : Option Given) → talk.standing.place ≡ place → IsBegun place given so_far.reads.begun → rest ≢ []
+      go Between given at is none = some at (sym (rest-waits at) ∙ none)
+      go (Counted n) None at is none = is
+      go (Chunked p) None at is none = is
+      go (Counted n) (Some g) at is none = begun-some (Counted n) g so_far.reads.begun is (front-nil so_far.reads.begun talk.standing.waiting none)
+      go (Chunked p) (Some g) at is none = begun-some (Chunked p) g so_far.reads.begun is (front-nil so_far.reads.begun talk.standing.waiting none)
+
+      left : rest ≢ []
+      left = go talk.standing.place so_far.given refl so_far.reads.is_begun
+
+  -- a read that gives no byte
+  still : (left' : Option (List ℕ)) (ended' : Bool) (e : TalkEnd) → left' ≡ now.left → ended' ≡ now.ended → Talked Streams start now e → Talked Streams start (record { view = now.view; left = left'; ended = ended'; held = now.held }) e
+  still left' ended' e left ended talked = subst (λ left. Talked Streams start (record { view = now.view; left = left; ended = ended'; held = now.held }) e) (sym left) (subst (λ ended. Talked Streams start (record { view = now.view; left = now.left; ended = ended; held = now.held }) e) (sym ended) talked)
+
+  pub read-ends : (talk' : TalkParts) (left' : Option (List ℕ)) (ended' : Bool) (e : TalkEnd) → talk.taken ≤ 2 ^ 62 → HoldsNoPart talk.standing.place talk.standing.waiting → Reads talk talk' now.left left' now.ended ended' (Ended e) → Talked Streams start (record { view = now.view; left = left'; ended = ended'; held = now.held }) e
+  read-ends talk' left' ended' end.Long most none reads = still left' ended' end.Long reads.0 reads.1 (ended-none end.Long most (none-left none) (λ rs h. h) (λ h. h) (sym so_far.count ∙ reads.2) refl)
+  read-ends talk' left' ended' end.ReadFault most none reads = still left' ended' end.ReadFault reads.0 reads.1 (ended-none end.ReadFault most (none-left none) (λ rs h. h) (λ h. h) tt refl)
+  read-ends talk' left' ended' end.Closed most none reads = absurd reads
+  read-ends talk' left' ended' end.Cut most none reads = absurd reads
+  read-ends talk' left' ended' end.Bad most none reads = absurd reads
+  read-ends talk' left' ended' end.WriteFault most none reads = absurd reads
+  read-ends talk' left' ended' end.Memory most none reads = absurd reads
+
+  -- ---- memory is wanting
+  -- the points of a request that is left without an answer
+  left-at : (view : View) → IfSome now.view.state (λ s. (points : List Point) × Chain now.view points view) → (points : List Point) × IfSome start.view.state (λ s. AtDesk Streams start.view view so_far.turns points)
+  left-at view made = go start.view.state refl so_far.desk
+    where
+      go : (state : Option State) → start.view.state ≡ state → IfSome state (λ s. AtDesk Streams start.view now.view so_far.turns []) → (points : List Point) × IfSome state (λ s. AtDesk Streams start.view view so_far.turns points)
+      go None is desk = ([], tt)
+      go (Some s) is desk =
+          let told = chain-told start.view now.view (points_of so_far.turns) s is desk.chain in
+          let more = subst (λ state. IfSome state (λ s. (points : List Point) × Chain now.view points view)) told.1 made in
+          (more.0, record { chain = chain-append start.view now.view view (points_of so_far.turns) more.0 desk.chain more.1; answers = desk.answers })
+
+  pub memory-ends : (view : View) (held : Option (List ℕ)) → talk.taken ≤ 2 ^ 62 → IfSome now.view.state (λ s. (points : List Point) × Chain now.view points view) → held ≡ now.held → Talked Streams start (record { view = view; left = now.left; ended = now.ended; held = held }) end.Memory
+  memory-ends view held most made same =
+      let front = front-of (given_by so_far.turns) so_far.given so_far.gone talk.standing.waiting talk.standing.place so_far.reads in
+      let desk = left-at view made in
+      record {
+        turns = so_far.turns;
+        requests = front.requests;
+        taken = bytes;
+        rest = rest;
+        points = desk.0;
+        gives = so_far.gives;
+        few = few most;
+        given = front.given;
+        reads = front.begin;
+        closes = so_far.closes;
+        written = subst (λ held. Writes start.held held (turns_text so_far.turns)) (sym same) so_far.written;
+        cause = tt;
+        left = tt;
+        desk = desk.1;
+      }
+
+  -- where nothing was done at the desk
+  pub memory-here : talk.taken ≤ 2 ^ 62 → Talked Streams start now end.Memory
+  memory-here most = memory-ends now.view now.held most (go now.view.state) refl
+    where
+      go : (state : Option State) → IfSome state (λ s. (points : List Point) × Chain now.view points now.view)
+      go None = tt
+      go (Some s) = ([], refl)
+
+  -- ---- an answer
+  module _ (g : Given) (t : Turn) (view : View) (held : Option (List ℕ)) (gone : List ℕ) (s' : Standing) (text : talk.standing.waiting ≡ gone ++ s'.waiting) (reads : HasRead (given_by so_far.turns ++ g ∷ []) None (so_far.gone ++ gone) s'.place) (next : NextTurn Streams now.view view g t) where
+    abbrev turns' : List Turn
+    turns' = so_far.turns ++ t ∷ []
+
+    given-is : given_by so_far.turns ++ g ∷ [] ≡ given_by turns'
+    given-is = ap (λ g. given_by so_far.turns ++ g ∷ []) (sym next.given) ∙ sym (given_by-push so_far.turns t)
+
+    desk-next : IfSome start.view.state (λ s. AtDesk Streams start.view view turns' [])
+    desk-next = go start.view.state refl so_far.desk
+      where
+        go : (state : Option State) → start.view.state ≡ state → IfSome state (λ s. AtDesk Streams start.view now.view so_far.turns []) → IfSome state (λ s. AtDesk Streams start.view view turns' [])
+        go None is desk = tt
+        go (Some s) is desk =
+            let told = chain-told start.view now.view (points_of so_far.turns) s is desk.chain in
+            let more = subst (λ state. IfSome state (λ s. Chain now.view t.points view × Answers Streams now.view.told_bytes t)) told.1 next.desk in
+            record {
+              chain = subst (λ points. Chain start.view points view) (sym (points_of-push so_far.turns t)) (chain-append start.view now.view view (points_of so_far.turns) t.points desk.chain more.0);
+              answers = all_push (Answers Streams start.view.told_bytes) so_far.turns t desk.answers (subst (λ told. Answers Streams told t) (chain-bytes start.view now.view (points_of so_far.turns) desk.chain) more.1);
+            }
+
+    written-next : Writes now.held held (answer_text t.closes t.answer) → Writes start.held held (turns_text turns')
+    written-next writes = subst (Writes start.held held) (sym (turns_text-push so_far.turns t)) (Writes-append start.held now.held held (turns_text so_far.turns) (answer_text t.closes t.answer) so_far.written writes)
+
+    bytes-same : (so_far.gone ++ gone) ++ s'.waiting ≡ bytes
+    bytes-same = came gone s' text
+
+    pub answered-on : t.closes ≡ false → Writes now.held held (answer_text t.closes t.answer) → s'.closed ≡ talk.standing.closed → Progress Streams start (record { view = view; left = now.left; ended = now.ended; held = held }) (record { standing = s'; coming = None; taken = talk.taken })
+    answered-on open_ writes closed = record {
+      turns = turns';
+      given = None;
+      gone = so_far.gone ++ gone;
+      gives = subst (λ b. Gives start.left now.left b) (sym bytes-same) so_far.gives;
+      count = so_far.count ∙ ap (λ b. length b) (sym bytes-same);
+      reads = subst (λ gs. HasRead gs None (so_far.gone ++ gone) s'.place) given-is reads;
+      comes = tt;
+      open_ = all_push (λ t. t.closes ≡ false) so_far.turns t so_far.open_ open_;
+      closes = all_push ClosesBy so_far.turns t so_far.closes next.closes;
+      written = written-next writes;
+      ended = λ is. so_far.ended (sym closed ∙ is);
+      desk = desk-next;
+    }
+
+    last-is : t.closes ≡ true → IsLast g.head
+    last-is is = subst (λ g. IsLast g.head) next.given (go t.closes is next.closes)
+      where
+        go : (closes : Bool) → closes ≡ true → MatchBool closes (IsLast t.given.head) (¬ (IsLast t.given.head)) → IsLast t.given.head
+        go true is by = by
+        go false is by = cc is
+
+    pub answered-last : talk.taken ≤ 2 ^ 62 → s'.place ≡ Between → t.closes ≡ true → Writes now.held held (answer_text t.closes t.answer) → Talked Streams start (record { view = view; left = now.left; ended = now.ended; held = held }) end.Closed
+    answered-last most at closes writes =
+        let all = all-to-last so_far.turns g (so_far.gone ++ gone) s'.waiting (subst (λ p. HasRead (given_by so_far.turns ++ g ∷ []) None (so_far.gone ++ gone) p) at reads) so_far.open_ so_far.closes (last-is closes) in
+        record {
+          turns = turns';
+          requests = all.requests;
+          taken = bytes;
+          rest = [];
+          points = [];
+          gives = so_far.gives;
+          few = few most;
+          given = subst (λ gs. AreRequests gs all.requests) given-is all.given;
+          reads = subst (λ b. RequestsOf IsBodyText Closes b all.requests []) bytes-same all.reads;
+          closes = all_push ClosesBy so_far.turns t so_far.closes next.closes;
+          written = written-next writes;
+          cause = (refl, inr (so_far.turns, t, refl, closes));
+          left = refl;
+          desk = desk-next;
+        }
+
+    pub answered-part : talk.taken ≤ 2 ^ 62 → WritesPart now.held held (answer_text t.closes t.answer) → Talked Streams start (record { view = view; left = now.left; ended = now.ended; held = held }) end.WriteFault
+    answered-part most part =
+        let front = front-of (given_by so_far.turns ++ g ∷ []) None (so_far.gone ++ gone) s'.waiting s'.place reads in
+        record {
+          turns = turns';
+          requests = front.requests;
+          taken = bytes;
+          rest = reads.begun ++ s'.waiting;
+          points = [];
+          gives = so_far.gives;
+          few = few most;
+          given = subst (λ gs. AreRequests gs front.requests) given-is front.given;
+          reads = subst (λ b. BeginWith b front.requests (reads.begun ++ s'.waiting)) bytes-same front.begin;
+          closes = all_push ClosesBy so_far.turns t so_far.closes next.closes;
+          written = subst (WritesPart start.held held) (sym (turns_text-push so_far.turns t)) (WritesPart-append start.held now.held held (turns_text so_far.turns) (answer_text t.closes t.answer) so_far.written part);
+          cause = tt;
+          left = refl;
+          desk = desk-next;
+        }
+
+-- ---- where memory was wanting before the first turn
+pub memory-at-once : (Streams : Option Refusal → Type 0) (now : Moment) → Talked Streams now now end.Memory
+memory-at-once Streams now =
+    let talk : TalkParts = record { standing = record { place = Between; body = []; waiting = []; closed = false }; coming = None; taken = 0 } in
+    memory-here Streams now now talk (progress-start Streams now talk refl refl refl) (omega (arith))

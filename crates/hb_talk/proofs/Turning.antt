@@ -1,0 +1,148 @@
+-- What each part of a request makes of a talk.
+use Rattle.std.proofs.Common.{◌≡◌, ◌≤◌, ◌^◌, ℕ, Bool, List, [], ◌∷◌, ◌++◌, Option, Some, None, Result, Ok, Err, IfSome, refl, sym, ap, subst, ◌∙◌}
+use Rattle.hb_http.specs.Parts.{EndsBody, Gives, GivesBody, HoldsNoPart, read_through}
+use Rattle.hb_http.specs.Readings.{Given, HasRead, ReadsOn}
+use Rattle.hb_http.specs.Standing.{Standing}
+use Rattle.hb_http.specs.declared.parts.Head.{Head}
+use Rattle.hb_http.specs.declared.parts.HttpFault.{HttpFault}
+use Rattle.hb_http.specs.declared.parts.HttpFault.TheVariants as fault
+use Rattle.hb_http.specs.declared.parts.Part.{Part}
+use Rattle.hb_http.specs.declared.parts.Part.TheVariants.{Head as HeadPart, Body, BodyEnd, NeedInput, InputEnd}
+use Rattle.hb_http.specs.declared.places.Place.{Place}
+use Rattle.hb_http.specs.declared.places.Place.TheVariants.{Between, Counted, Chunked}
+use Rattle.hb_desk.specs.Clause.{View}
+use Rattle.hb_desk.specs.declared.refusals.Refusal.{Refusal}
+use Rattle.hb_talk.specs.Comings.{ComesOf}
+use Rattle.hb_talk.specs.Progress.{Answered, Begins, Comes, Gathers, GoesOn, Grows, Progress, Reads, TalkParts, end_of}
+use Rattle.hb_talk.specs.Talks.{Moment, Talked}
+use Rattle.hb_talk.specs.Turns.{given_by}
+use Rattle.hb_talk.specs.declared.coming.Coming.{Coming}
+use Rattle.hb_talk.specs.declared.ends.TalkEnd.TheVariants as end
+use Rattle.hb_talk.specs.declared.ends.Turned.{Turned}
+use Rattle.hb_talk.specs.declared.ends.Turned.TheVariants.{More, Ended}
+use Rattle.hb_talk.specs.declared.wanted.Wanted.{Wanted}
+use Rattle.hb_talk.proofs.Talking.{answered-last, answered-on, answered-part, bad-ends, cut-ends, input-ends, long-ends, many-ends, memory-ends, memory-here, parted, read-ends, read-on}
+
+some-of : {A P : Type 0} (o : Option A) → P → IfSome o (λ x. P)
+some-of None p = tt
+some-of (Some x) p = p
+
+-- a body that grew by a piece is that of what was given of it
+grown : (o : Option Wanted) (body body' content piece : List ℕ) → IfSome o (λ w. body' ≡ body ++ piece) → IfSome o (λ w. body ≡ content) → IfSome o (λ w. body' ≡ content ++ piece)
+grown None body body' content piece grows is = tt
+grown (Some w) body body' content piece grows is = grows ∙ ap (λ b. b ++ piece) is
+
+comes-grown : (c c' : Coming) (g : Given) (piece : List ℕ) → Grows c c' piece → Comes (Some c) (Some g) → Comes (Some c') (Some (record { head = g.head; content = g.content ++ piece }))
+comes-grown c c' g piece grows comes = (
+  subst (λ wanted. ComesOf wanted c'.media c'.last g.head) (sym grows.wanted) (subst (λ media. ComesOf c.wanted media c'.last g.head) (sym grows.media) (subst (λ last. ComesOf c.wanted c.media last g.head) (sym grows.last) comes.0)),
+  subst (λ wanted. IfSome wanted (λ w. c'.body.items ≡ g.content ++ piece)) (sym grows.wanted) (grown c.wanted c.body.items c'.body.items g.content piece grows.body comes.1),
+)
+
+none-comes : {A : Type 0} (coming : Option Coming) (given : Option Given) (g : Given) → coming ≡ None → given ≡ Some g → Comes coming given → A
+none-comes coming given g is other comes = absurd (subst (λ o. Comes None o) other (subst (λ o. Comes o given) is comes))
+
+-- ---- what a part leaves of the session's end
+ends-between : (place : Place) (s s' : Standing) → EndsBody place s s' → (s'.place ≡ Between) × (s'.closed ≡ s.closed)
+ends-between Between s s' ends = absurd ends
+ends-between (Counted left) s s' ends = (ap (λ s. s.place) ends.1, ap (λ s. s.closed) ends.1)
+ends-between (Chunked place) s s' ends = (ap (λ s. s.place) ends.after, ap (λ s. s.closed) ends.after)
+
+gives-closed : (result : Result Part HttpFault) (s s' : Standing) → Gives s result s' → s'.closed ≡ s.closed
+gives-closed (Ok (HeadPart told)) s s' gives = ap (λ s. s.closed) gives.after
+gives-closed (Ok Body) s s' gives = go s.place gives
+  where
+    go : (place : Place) → GivesBody place s s' → s'.closed ≡ s.closed
+    go Between gives = absurd gives
+    go (Counted left) gives = ap (λ s. s.closed) gives.after
+    go (Chunked place) gives = ap (λ s. s.closed) gives.after
+gives-closed (Ok BodyEnd) s s' gives = (ends-between s.place s s' gives).1
+gives-closed (Ok NeedInput) s s' gives = ap (λ s. s.closed) gives.2 ∙ go s.place
+  where
+    go : (place : Place) → (read_through place s).closed ≡ s.closed
+    go Between = refl
+    go (Counted left) = refl
+    go (Chunked place) = refl
+gives-closed (Ok InputEnd) s s' gives = ap (λ s. s.closed) gives.4
+gives-closed (Err fault.Cut) s s' gives = ap (λ s. s.closed) gives.3
+gives-closed (Err fault.Bad) s s' gives = ap (λ s. s.closed) gives.1
+gives-closed (Err fault.TooManyHeaders) s s' gives = ap (λ s. s.closed) gives.2
+gives-closed (Err fault.HeadTooLong) s s' gives = ap (λ s. s.closed) gives.4
+gives-closed (Err fault.Memory) s s' gives = ap (λ s. s.closed) gives
+
+module _ (Streams : Option Refusal → Type 0) (start now : Moment) (talk : TalkParts) (so_far : Progress Streams start now talk) (most : talk.taken ≤ 2 ^ 62) where
+  abbrev pub at : Standing → TalkParts
+  at s' = record { standing = s'; coming = talk.coming; taken = talk.taken }
+
+  -- a head came
+  pub head-turn : (told : Head) (s' : Standing) (new : TalkParts) (turned : Turned) → Gives talk.standing (Ok (HeadPart told)) s' → ReadsOn (given_by so_far.turns) so_far.given so_far.gone talk.standing (Ok (HeadPart told)) s' → Begins (at s') told new turned → GoesOn Streams start now new turned
+  head-turn told s' new More gives reads begins =
+      let follows = reads.follows in
+      let g : Given = record { head = follows.2; content = [] } in
+      subst (Progress Streams start now) (sym begins.1) (parted Streams start now talk so_far reads.gone s' (Some begins.0) (Some g) reads.text
+      (subst (λ done. HasRead done (Some g) (so_far.gone ++ reads.gone) s'.place) follows.1 (subst (λ given. HasRead reads.done' given (so_far.gone ++ reads.gone) s'.place) follows.4 reads.reads))
+      (begins.3 follows.2 follows.3, some-of begins.0.wanted begins.2) (gives-closed (Ok (HeadPart told)) talk.standing s' gives))
+  head-turn told s' new (Ended end.Memory) gives reads begins = memory-here Streams start now talk so_far most
+  head-turn told s' new (Ended end.Closed) gives reads begins = absurd begins
+  head-turn told s' new (Ended end.Cut) gives reads begins = absurd begins
+  head-turn told s' new (Ended end.Bad) gives reads begins = absurd begins
+  head-turn told s' new (Ended end.Long) gives reads begins = absurd begins
+  head-turn told s' new (Ended end.ReadFault) gives reads begins = absurd begins
+  head-turn told s' new (Ended end.WriteFault) gives reads begins = absurd begins
+
+  -- a piece of a body came
+  pub body-turn : (s' : Standing) (new : TalkParts) (turned : Turned) → Gives talk.standing (Ok Body) s' → ReadsOn (given_by so_far.turns) so_far.given so_far.gone talk.standing (Ok Body) s' → Gathers (at s') new turned → GoesOn Streams start now new turned
+  body-turn s' new More gives reads gathers =
+      let follows = reads.follows in
+      let g' : Given = record { head = follows.0.head; content = follows.0.content ++ s'.body } in
+      subst (Progress Streams start now) (sym gathers.3) (parted Streams start now talk so_far reads.gone s' (Some gathers.1) (Some g') reads.text
+      (subst (λ done. HasRead done (Some g') (so_far.gone ++ reads.gone) s'.place) follows.2 (subst (λ given. HasRead reads.done' given (so_far.gone ++ reads.gone) s'.place) follows.3 reads.reads))
+      (comes-grown gathers.0 gathers.1 follows.0 s'.body gathers.4 (subst (λ given. Comes (Some gathers.0) given) follows.1 (subst (λ coming. Comes coming so_far.given) gathers.2 so_far.comes))) (gives-closed (Ok Body) talk.standing s' gives))
+  body-turn s' new (Ended end.Memory) gives reads gathers = memory-here Streams start now talk so_far most
+  body-turn s' new (Ended end.Bad) gives reads gathers = none-comes talk.coming so_far.given reads.follows.0 gathers reads.follows.1 so_far.comes
+  body-turn s' new (Ended end.Closed) gives reads gathers = absurd gathers
+  body-turn s' new (Ended end.Cut) gives reads gathers = absurd gathers
+  body-turn s' new (Ended end.Long) gives reads gathers = absurd gathers
+  body-turn s' new (Ended end.ReadFault) gives reads gathers = absurd gathers
+  body-turn s' new (Ended end.WriteFault) gives reads gathers = absurd gathers
+
+  -- a request came to its end, and was answered
+  pub end-turn : (s' : Standing) (new : TalkParts) (turned : Turned) (view : View) (held : Option (List ℕ)) → Gives talk.standing (Ok BodyEnd) s' → ReadsOn (given_by so_far.turns) so_far.given so_far.gone talk.standing (Ok BodyEnd) s' → new ≡ record { standing = s'; coming = None; taken = talk.taken } → ((g : Given) → Comes talk.coming (Some g) → Answered Streams now.view view now.held held g turned) → GoesOn Streams start (record { view = view; left = now.left; ended = now.ended; held = held }) new turned
+  end-turn s' new turned view held gives reads is answers = go turned (answers reads.follows.0 (subst (λ given. Comes talk.coming given) reads.follows.1 so_far.comes))
+    where
+      read' : HasRead (given_by so_far.turns ++ reads.follows.0 ∷ []) None (so_far.gone ++ reads.gone) s'.place
+      read' = subst (λ done. HasRead done None (so_far.gone ++ reads.gone) s'.place) reads.follows.2 (subst (λ given. HasRead reads.done' given (so_far.gone ++ reads.gone) s'.place) reads.follows.3 reads.reads)
+
+      go : (turned : Turned) → Answered Streams now.view view now.held held reads.follows.0 turned → GoesOn Streams start (record { view = view; left = now.left; ended = now.ended; held = held }) new turned
+      go More a = subst (Progress Streams start (record { view = view; left = now.left; ended = now.ended; held = held })) (sym is) (answered-on Streams start now talk so_far reads.follows.0 a.0 view held reads.gone s' reads.text read' a.1 a.2 a.3 (gives-closed (Ok BodyEnd) talk.standing s' gives))
+      go (Ended end.Closed) a = answered-last Streams start now talk so_far reads.follows.0 a.0 view held reads.gone s' reads.text read' a.1 most (ends-between talk.standing.place talk.standing s' gives).0 a.2 a.3
+      go (Ended end.WriteFault) a = answered-part Streams start now talk so_far reads.follows.0 a.0 view held reads.gone s' reads.text read' a.1 most a.2
+      go (Ended end.Memory) a = memory-ends Streams start now talk so_far view held most a.0 a.1
+      go (Ended end.Cut) a = absurd a
+      go (Ended end.Bad) a = absurd a
+      go (Ended end.Long) a = absurd a
+      go (Ended end.ReadFault) a = absurd a
+
+  -- more bytes are wanted, and read
+  pub input-turn : (s' : Standing) (new : TalkParts) (turned : Turned) (left : Option (List ℕ)) (ended : Bool) → Gives talk.standing (Ok NeedInput) s' → HoldsNoPart s'.place s'.waiting → ReadsOn (given_by so_far.turns) so_far.given so_far.gone talk.standing (Ok NeedInput) s' → Reads (at s') new now.left left now.ended ended turned → GoesOn Streams start (record { view = now.view; left = left; ended = ended; held = now.held }) new turned
+  input-turn s' new turned left ended gives none reads read = go turned read
+    where
+      parted' : Progress Streams start now (record { standing = s'; coming = talk.coming; taken = talk.taken })
+      parted' = parted Streams start now talk so_far reads.gone s' talk.coming so_far.given reads.text
+          (subst (λ done. HasRead done so_far.given (so_far.gone ++ reads.gone) s'.place) reads.follows.0 (subst (λ given. HasRead reads.done' given (so_far.gone ++ reads.gone) s'.place) reads.follows.1 reads.reads))
+          so_far.comes (gives-closed (Ok NeedInput) talk.standing s' gives)
+
+      go : (turned : Turned) → Reads (record { standing = s'; coming = talk.coming; taken = talk.taken }) new now.left left now.ended ended turned → GoesOn Streams start (record { view = now.view; left = left; ended = ended; held = now.held }) new turned
+      go More read = read-on Streams start now (record { standing = s'; coming = talk.coming; taken = talk.taken }) parted' new left ended read
+      go (Ended e) read = read-ends Streams start now (record { standing = s'; coming = talk.coming; taken = talk.taken }) parted' new left ended e most none read
+
+  -- the input ended between two requests
+  pub closed-turn : (s' : Standing) → Gives talk.standing (Ok InputEnd) s' → Talked Streams start now end.Closed
+  closed-turn s' gives = input-ends Streams start now talk so_far most gives.0 gives.1 gives.2 gives.3
+
+  -- no part came
+  pub fault-turn : (f : HttpFault) (s' : Standing) → Gives talk.standing (Err f) s' → Talked Streams start now (end_of f)
+  fault-turn fault.Cut s' gives = cut-ends Streams start now talk so_far most gives.0 gives.1 gives.2
+  fault-turn fault.Memory s' gives = memory-here Streams start now talk so_far most
+  fault-turn fault.Bad s' gives = bad-ends Streams start now talk so_far most gives.0
+  fault-turn fault.TooManyHeaders s' gives = many-ends Streams start now talk so_far most gives.0 gives.1
+  fault-turn fault.HeadTooLong s' gives = long-ends Streams start now talk so_far most gives.0 gives.1

@@ -1,0 +1,138 @@
+-- A talk under way: what it has done so far, and what each of its steps makes of that.
+use Rattle.std.specs.Prelude.{◌≡◌, ◌<◌, ◌+◌, ◌-◌, ◌*◌, ◌^◌, ◌⊎◌, ℕ, Bool, true, false, List, [], ◌++◌, length, Option, Some, None, Result, IfOk, IfSome}
+use Rattle.std.specs.List.{AllByRecursion}
+use Rattle.hb_outside.specs.Streams.{Gives, Writes, WritesPart}
+use Rattle.httparse.specs.Grammar.{RequestHead}
+use Rattle.hb_http.specs.Parts.{IsToldOf}
+use Rattle.hb_http.specs.Readings.{Given, HasRead}
+use Rattle.hb_http.specs.Standing.{Standing}
+use Rattle.hb_http.specs.declared.parts.Head.{Head}
+use Rattle.hb_http.specs.declared.parts.HttpFault.{HttpFault}
+use Rattle.hb_http.specs.declared.parts.HttpFault.TheVariants as fault
+use Rattle.hb_http.specs.declared.places.Place.{Place}
+use Rattle.hb_http.specs.declared.places.Place.TheVariants.{Between}
+use Rattle.hb_desk.specs.Chains.{Chain}
+use Rattle.hb_desk.specs.Clause.{View}
+use Rattle.hb_desk.specs.Points.{Point}
+use Rattle.hb_desk.specs.declared.answers.Answer.{Answer}
+use Rattle.hb_desk.specs.declared.refusals.Refusal.{Refusal}
+use Rattle.hb_talk.specs.Comings.{ComesOf}
+use Rattle.hb_talk.specs.Talks.{AtDesk, Moment, Talked}
+use Rattle.hb_talk.specs.Texts.{answer_text}
+use Rattle.hb_talk.specs.Turns.{Answers, AnswersTo, ClosesBy, Turn, given_by, turns_text}
+use Rattle.hb_talk.specs.declared.coming.Coming.{Coming}
+use Rattle.hb_talk.specs.declared.ends.TalkEnd.{TalkEnd}
+use Rattle.hb_talk.specs.declared.ends.TalkEnd.TheVariants.{Closed, Cut, Bad, Long, ReadFault, WriteFault, Memory}
+use Rattle.hb_talk.specs.declared.ends.Turned.{Turned}
+use Rattle.hb_talk.specs.declared.ends.Turned.TheVariants.{More, Ended}
+
+-- where its session stands, the request that comes, and how many bytes have come
+pub record TalkParts : Type 0 where
+  pub standing : Standing
+  pub coming : Option Coming
+  pub taken : ℕ
+
+-- what comes is the request of which this was given
+abbrev pub Comes : Option Coming → Option Given → Type 0
+Comes None None = Unit {0}
+Comes None (Some g) = ⊥
+Comes (Some c) None = ⊥
+Comes (Some c) (Some g) = ComesOf c.wanted c.media c.last g.head × IfSome c.wanted (λ w. c.body.items ≡ g.content)
+
+-- What a talk has done so far: these turns, none of which closed, and of the request that comes this was given.
+pub record Progress (Streams : Option Refusal → Type 0) (start now : Moment) (talk : TalkParts) : Type 0 where
+  pub turns : List Turn
+  pub given : Option Given
+  -- the bytes that were taken apart
+  pub gone : List ℕ
+  pub gives : Gives start.left now.left (gone ++ talk.standing.waiting)
+  pub count : talk.taken ≡ length (gone ++ talk.standing.waiting)
+  pub reads : HasRead (given_by turns) given gone talk.standing.place
+  pub comes : Comes talk.coming given
+  pub open_ : AllByRecursion (λ t. t.closes ≡ false) turns
+  pub closes : AllByRecursion ClosesBy turns
+  pub written : Writes start.held now.held (turns_text turns)
+  pub ended : talk.standing.closed ≡ true → now.ended ≡ true
+  pub desk : IfSome start.view.state (λ s. AtDesk Streams start.view now.view turns [])
+
+-- what a turn makes of a talk
+abbrev pub GoesOn : (Option Refusal → Type 0) → Moment → Moment → TalkParts → Turned → Type 0
+GoesOn Streams start now talk More = Progress Streams start now talk
+GoesOn Streams start now talk (Ended end) = Talked Streams start now end
+
+-- ---- a head, and a piece of a body
+abbrev pub Begins : TalkParts → Head → TalkParts → Turned → Type 0
+Begins old head new More = (c : Coming) × (new ≡ record { standing = old.standing; coming = Some c; taken = old.taken }) × (c.body.items ≡ []) × ((h : RequestHead) → IsToldOf h head → ComesOf c.wanted c.media c.last h)
+Begins old head new (Ended Memory) = Unit {0}
+Begins old head new (Ended end) = ⊥
+
+-- the body grows by the piece, where the request is served
+pub record Grows (c c' : Coming) (piece : List ℕ) : Type 0 where
+  pub wanted : c'.wanted ≡ c.wanted
+  pub media : c'.media ≡ c.media
+  pub last : c'.last ≡ c.last
+  pub body : IfSome c.wanted (λ w. c'.body.items ≡ c.body.items ++ piece)
+
+-- a piece comes behind a head alone
+abbrev pub Gathers : TalkParts → TalkParts → Turned → Type 0
+Gathers old new More = (c c' : Coming) × (old.coming ≡ Some c) × (new ≡ record { standing = old.standing; coming = Some c'; taken = old.taken }) × Grows c c' old.standing.body
+Gathers old new (Ended Memory) = Unit {0}
+Gathers old new (Ended Bad) = old.coming ≡ None
+Gathers old new (Ended end) = ⊥
+
+-- ---- a read
+-- what a read of n bytes makes of a session: none is the end of the input
+abbrev pub Came : Standing → Standing → Option (List ℕ) → Option (List ℕ) → Bool → Bool → ℕ → Type 0
+Came s s' left rest ended ended' n =
+    ((n ≡ 0) × Gives left rest [] × (ended' ≡ true) × (s' ≡ record { place = s.place; body = s.body; waiting = s.waiting; closed = true }))
+    ⊎ ((piece : List ℕ) × (length piece ≡ n) × (0 < n) × Gives left rest piece × (ended' ≡ ended) × (s' ≡ record { place = s.place; body = s.body; waiting = s.waiting ++ piece; closed = s.closed }))
+
+-- what a read makes of a talk whose session waits
+abbrev pub Reads : TalkParts → TalkParts → Option (List ℕ) → Option (List ℕ) → Bool → Bool → Turned → Type 0
+Reads old new left rest ended ended' More =
+    (Gives left rest [] × (ended' ≡ true) × (new ≡ record { standing = record { place = old.standing.place; body = old.standing.body; waiting = old.standing.waiting; closed = true }; coming = old.coming; taken = old.taken }))
+    ⊎ ((piece : List ℕ) × (0 < length piece) × Gives left rest piece × (ended' ≡ ended)
+    × (new ≡ record { standing = record { place = old.standing.place; body = old.standing.body; waiting = old.standing.waiting ++ piece; closed = old.standing.closed }; coming = old.coming; taken = old.taken + length piece }))
+Reads old new left rest ended ended' (Ended Long) = (rest ≡ left) × (ended' ≡ ended) × (old.taken ≡ 2 ^ 62)
+Reads old new left rest ended ended' (Ended ReadFault) = (rest ≡ left) × (ended' ≡ ended)
+Reads old new left rest ended ended' (Ended end) = ⊥
+
+-- ---- an answer
+-- what was answered to a request, by the points of its events
+pub record Served {E : Type 0} (Streams : Option Refusal → Type 0) (start now : View) (g : Given) (result : Result Answer E) : Type 0 where
+  pub points : List Point
+  pub chain : Chain start points now
+  pub answers : IfOk result (λ a. (read : List ℕ) × AnswersTo Streams start.told_bytes g points read a)
+
+-- one turn more
+pub record NextTurn (Streams : Option Refusal → Type 0) (start now : View) (g : Given) (t : Turn) : Type 0 where
+  pub given : t.given ≡ g
+  pub closes : ClosesBy t
+  pub desk : IfSome start.state (λ s. Chain start t.points now × Answers Streams start.told_bytes t)
+
+-- what answering a request makes of desk and sink
+abbrev pub Answered : (Option Refusal → Type 0) → View → View → Option (List ℕ) → Option (List ℕ) → Given → Turned → Type 0
+Answered Streams start now held held' g More = (t : Turn) × NextTurn Streams start now g t × (t.closes ≡ false) × Writes held held' (answer_text t.closes t.answer)
+Answered Streams start now held held' g (Ended Closed) = (t : Turn) × NextTurn Streams start now g t × (t.closes ≡ true) × Writes held held' (answer_text t.closes t.answer)
+Answered Streams start now held held' g (Ended WriteFault) = (t : Turn) × NextTurn Streams start now g t × WritesPart held held' (answer_text t.closes t.answer)
+Answered Streams start now held held' g (Ended Memory) = IfSome start.state (λ s. (points : List Point) × Chain start points now) × (held' ≡ held)
+Answered Streams start now held held' g (Ended end) = ⊥
+
+-- ---- its end
+-- how a fault of the bytes ends it
+abbrev pub end_of : HttpFault → TalkEnd
+end_of fault.Cut = Cut
+end_of fault.Memory = Memory
+end_of other = Bad
+
+abbrev pub is_between : Place → ℕ
+is_between Between = 0
+is_between place = 1
+
+abbrev pub is_open : Bool → ℕ
+is_open true = 0
+is_open false = 1
+
+-- the bytes that may still come, those that wait, and what is left between them: each turn lowers it
+abbrev pub work_left : TalkParts → ℕ
+work_left talk = 4 * (2 ^ 62 - talk.taken) + 2 * length talk.standing.waiting + is_between talk.standing.place + is_open talk.standing.closed

@@ -1,0 +1,85 @@
+-- A talk over one connection: what was read, what was done at the desk, and what was written.
+use Rattle.std.specs.Prelude.{◌≡◌, ◌≢◌, ◌≤◌, ◌^◌, ◌⊎◌, ℕ, Bool, true, List, [], ◌∷◌, ◌++◌, length, Option, IfSome}
+use Rattle.std.specs.List.{AllByRecursion, flat_map}
+use Rattle.hb_outside.specs.Streams.{Gives, Writes, WritesPart}
+use Rattle.httparse.specs.Grammar.{RequestHead}
+use Rattle.hb_http.specs.Readings.{AreRequests, IsBodyText}
+use Rattle.hb_http.specs.Requests.{IsRequest, Request, RequestsOf, request_text}
+use Rattle.hb_desk.specs.Chains.{Chain}
+use Rattle.hb_desk.specs.Clause.{View}
+use Rattle.hb_desk.specs.Points.{Point}
+use Rattle.hb_desk.specs.declared.refusals.Refusal.{Refusal}
+use Rattle.hb_talk.specs.Turns.{Answers, ClosesBy, Turn, given_by, points_of, turns_text}
+use Rattle.hb_talk.specs.Wanting.{IsLast}
+use Rattle.hb_talk.specs.declared.ends.TalkEnd.{TalkEnd}
+use Rattle.hb_talk.specs.declared.ends.TalkEnd.TheVariants.{Closed, Cut, Long, WriteFault, Memory}
+
+-- what the desk and the devices tell at a moment: the desk's view, what the source has left and whether it has ended, and
+-- what the sink holds
+pub record Moment : Type 0 where
+  pub view : View
+  pub left : Option (List ℕ)
+  pub ended : Bool
+  pub held : Option (List ℕ)
+
+abbrev pub now_of : View → Option (List ℕ) → Bool → Option (List ℕ) → Moment
+now_of view left ended held = record { view = view; left = left; ended = ended; held = held }
+
+abbrev pub Closes : RequestHead → List ℕ → Type 0
+Closes h body = IsLast h
+
+-- the bytes are these whole requests and then the rest
+pub record BeginWith (bytes : List ℕ) (requests : List Request) (rest : List ℕ) : Type 0 where
+  pub text : bytes ≡ flat_map request_text requests ++ rest
+  pub each : AllByRecursion (IsRequest IsBodyText) requests
+
+-- All whole requests of the bytes were answered, up to the first that closes; or, where the sink failed or memory was
+-- wanting, those at their front.
+abbrev pub Reads : TalkEnd → List ℕ → List Request → List ℕ → Type 0
+Reads WriteFault taken requests rest = BeginWith taken requests rest
+Reads Memory taken requests rest = BeginWith taken requests rest
+Reads end taken requests rest = RequestsOf IsBodyText Closes taken requests rest
+
+-- where the sink failed, a part of the last answer may be missing
+abbrev pub Wrote : TalkEnd → Option (List ℕ) → Option (List ℕ) → List ℕ → Type 0
+Wrote WriteFault held now text = WritesPart held now text
+Wrote end held now text = Writes held now text
+
+-- the last of the turns closed
+abbrev pub LastCloses : List Turn → Type 0
+LastCloses turns = (before : List Turn) × (last : Turn) × (turns ≡ before ++ last ∷ []) × (last.closes ≡ true)
+
+-- why the talk ended
+abbrev pub HasCause : TalkEnd → Bool → List ℕ → List Turn → List ℕ → Type 0
+HasCause Closed ended taken turns rest = (rest ≡ []) × ((ended ≡ true) ⊎ LastCloses turns)
+HasCause Cut ended taken turns rest = (rest ≢ []) × (ended ≡ true)
+HasCause Long ended taken turns rest = length taken ≡ 2 ^ 62
+HasCause end ended taken turns rest = Unit {0}
+
+-- the points of a request that is left without an answer, which comes only where memory was wanting
+abbrev pub Unanswered : TalkEnd → List Point → Type 0
+Unanswered Memory points = Unit {0}
+Unanswered end points = points ≡ []
+
+-- Its turns at the desk, one behind another: each answer is that of its request by its points.
+pub record AtDesk (Streams : Option Refusal → Type 0) (start now : View) (turns : List Turn) (points : List Point) : Type 0 where
+  pub chain : Chain start (points ++ points_of turns) now
+  pub answers : AllByRecursion (Answers Streams start.told_bytes) turns
+
+-- What a talk has done: the bytes that it read are the requests of its turns and a rest, and what it wrote are the answers
+-- of its turns.
+pub record Talked (Streams : Option Refusal → Type 0) (start now : Moment) (end : TalkEnd) : Type 0 where
+  pub turns : List Turn
+  pub requests : List Request
+  pub taken : List ℕ
+  pub rest : List ℕ
+  pub points : List Point
+  pub gives : Gives start.left now.left taken
+  pub few : length taken ≤ 2 ^ 62
+  pub given : AreRequests (given_by turns) requests
+  pub reads : Reads end taken requests rest
+  pub closes : AllByRecursion ClosesBy turns
+  pub written : Wrote end start.held now.held (turns_text turns)
+  pub cause : HasCause end now.ended taken turns rest
+  pub left : Unanswered end points
+  pub desk : IfSome start.view.state (λ s. AtDesk Streams start.view now.view turns points)

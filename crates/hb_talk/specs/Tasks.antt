@@ -1,0 +1,116 @@
+-- What is done for a request, and what it is answered: by what it wants, by its points, and by what was read of the content
+-- that it opened.
+use Rattle.std.specs.Prelude.{◌≡◌, ℕ, Bool, false, not, List, [], ◌∷◌, ◌++◌, length, Option, Some, None, Result, Ok, Err, codes, unwrap_or, if◌then◌else◌}
+use Rattle.hb_text.specs.Digests.{digest_of, digest_text}
+use Rattle.hb_text.specs.declared.digests.Digest.{Digest}
+use Rattle.hb_text.specs.declared.references.Reference.{Reference}
+use Rattle.hb_text.specs.declared.references.Reference.TheVariants.{Tag, Digest as ByDigest}
+use Rattle.hb_records.specs.declared.puts.PutAsk.{PutAsk}
+use Rattle.hb_model.specs.Words.{same_digest}
+use Rattle.hb_manifest.specs.Forms.{manifest_form}
+use Rattle.hb_manifest.specs.declared.manifests.Manifest.{Manifest}
+use Rattle.hb_manifest.specs.declared.manifests.ManifestFault.{ManifestFault}
+use Rattle.hb_manifest.specs.declared.manifests.ManifestFault.TheVariants as manifest
+use Rattle.hb_desk.specs.Points.{Point}
+use Rattle.hb_desk.specs.declared.answers.Answer.{Answer}
+use Rattle.hb_upload.specs.Deciding.{decided}
+use Rattle.hb_upload.specs.Places.{Calls, Parcel, Stopped, place_of}
+use Rattle.hb_upload.specs.declared.phase.Stop.{Stop}
+use Rattle.hb_upload.specs.declared.phase.Stop.TheVariants.{Pushed, WrongDigest, Refused}
+use Rattle.hb_ops.specs.Errors.{ErrorForm, detailed, digest_item, error_answer, error_of, number_item, plain}
+use Rattle.hb_ops.specs.Gets.{HasDigest, LeadTo, decided as got_by}
+use Rattle.hb_ops.specs.declared.gets.Got.{Got}
+use Rattle.hb_ops.specs.declared.gets.Got.TheVariants as got
+use Rattle.hb_ops.specs.declared.gets.Phase.TheVariants.{Ended}
+use Rattle.hb_ops.specs.declared.gets.Sought.{Sought}
+use Rattle.hb_ops.specs.declared.gets.Sought.TheVariants.{Blob, Manifest as AManifest}
+use Rattle.hb_talk.specs.declared.wanted.Wanted.{Wanted}
+use Rattle.hb_talk.specs.declared.wanted.Wanted.TheVariants.{PushBlob, GetBlob, PutManifest, GetManifest}
+
+-- an operation over the desk, or an error at once
+pub data Task : Type 0 where
+  Pushes : (parcel : Parcel) → Task
+  Gets : (sought : Sought) → Task
+  Refuses : (error : ErrorForm) → Task
+
+-- ---- errors that no event decides
+abbrev pub wrong_digest : Digest → ErrorForm
+wrong_digest found = detailed 400 (codes "DIGEST_INVALID") (digest_item (codes "found") found ∷ [])
+
+abbrev pub manifest_error : ManifestFault → ErrorForm
+manifest_error (manifest.BadDescriptor place) = detailed 400 (codes "MANIFEST_INVALID") (number_item (codes "place") place ∷ [])
+manifest_error manifest.TooLong = plain 413 (codes "SIZE_INVALID")
+manifest_error fault = plain 400 (codes "MANIFEST_INVALID")
+
+abbrev pub unsupported : ErrorForm
+unsupported = plain 404 (codes "UNSUPPORTED")
+
+-- ---- what is done
+abbrev pub tag_of : Reference → Option (List ℕ)
+tag_of (Tag tag) = Some tag
+tag_of (ByDigest d) = None
+
+abbrev pub put_of : List ℕ → Reference → List ℕ → Manifest → PutAsk
+put_of name r body m = record { name = name; digest = digest_of body; size = length body; media = m.media; refs = m.refs; children = m.children; tag = tag_of r }
+
+abbrev pub manifest_task : List ℕ → Reference → List ℕ → Result Manifest ManifestFault → Task
+manifest_task name r body (Ok m) = Pushes (record { name = name; digest = digest_of body; bytes = body; put = Some (put_of name r body m) })
+manifest_task name r body (Err fault) = Refuses (manifest_error fault)
+
+-- the reference is a digest, and not that of the body
+abbrev pub names_other : Reference → Digest → Bool
+names_other (Tag tag) found = false
+names_other (ByDigest d) found = not (same_digest found d)
+
+-- by what is wanted, the Content-Type and the body
+abbrev pub task_of : Wanted → Option (List ℕ) → List ℕ → Task
+task_of (PushBlob name d) media body = Pushes (record { name = name; digest = d; bytes = body; put = None })
+task_of (GetBlob name d) media body = Gets (Blob name d)
+task_of (GetManifest name r) media body = Gets (AManifest name r)
+task_of (PutManifest name r) media body =
+    if names_other r (digest_of body) then Refuses (wrong_digest (digest_of body)) else manifest_task name r body (manifest_form media body)
+
+-- the points of it, done to its end
+abbrev pub Makes : Task → List Point → Type 0
+Makes (Pushes b) points = Calls b points × ((stop : Stop) × (place_of b points ≡ Stopped stop))
+Makes (Gets sought) points = (x : Got) × LeadTo sought (Ended x) points
+Makes (Refuses error) points = points ≡ []
+
+-- ---- successes
+-- under which path the content stands (OCI Distribution Specification 1.1, "Endpoints")
+abbrev pub path_of : Option PutAsk → List ℕ
+path_of None = codes "/blobs/"
+path_of (Some put) = codes "/manifests/"
+
+abbrev pub location_of : Parcel → List ℕ
+location_of b = codes "/v2/" ++ b.name ++ path_of b.put ++ digest_text b.digest
+
+abbrev pub created : Parcel → Answer
+created b = record { status = 201; code = None; detail = []; length = Some 0; media = None; digest = Some b.digest; link = None; location = Some (location_of b); range = None; retry = None; body = None }
+
+-- the type of content that has none of its own
+abbrev pub octets : List ℕ
+octets = codes "application/octet-stream"
+
+abbrev pub content : Digest → Option (List ℕ) → List ℕ → Answer
+content d media bytes = record { status = 200; code = None; detail = []; length = None; media = Some (unwrap_or media octets); digest = Some d; link = None; location = None; range = None; retry = None; body = Some bytes }
+
+-- ---- answers
+abbrev pub push_answer : Parcel → Stop → Answer
+push_answer b Pushed = created b
+push_answer b (WrongDigest found) = error_answer (wrong_digest found)
+push_answer b (Refused refusal t) = error_answer (error_of t refusal)
+
+abbrev pub got_answer : Got → Answer
+got_answer (got.Content d media bytes) = content d media bytes
+got_answer (got.Refused refusal t) = error_answer (error_of t refusal)
+
+abbrev pub answer_of : Task → List Point → List ℕ → Answer
+answer_of (Pushes b) points read = push_answer b (decided b points)
+answer_of (Gets sought) points read = got_answer (got_by read points)
+answer_of (Refuses error) points read = error_answer error
+
+-- what was read for it has the digest that was opened, where bytes are told
+abbrev pub ReadsTrue : Bool → Task → List Point → List ℕ → Type 0
+ReadsTrue told (Gets sought) points read = HasDigest told (got_by read points)
+ReadsTrue told task points read = Unit {0}

@@ -1,0 +1,138 @@
+//! What is answered to a request that was served, and the errors that no event decides.
+ghost use Rattle.std.specs.Prelude.{◌≡◌, ◌≢◌, ◌++◌, ◌∷◌, [], IfOk, codes};
+ghost use Rattle.hb_text.specs.Digests.{digest_of, digest_text};
+ghost use Rattle.hb_records.specs.declared.puts.PutAsk.{PutAsk as Put};
+ghost use Rattle.std.specs.declared.option.Option.{Option};
+ghost use Rattle.hb_ops.specs.Errors.{digest_item, error_answer, number_item};
+ghost use Rattle.hb_talk.specs.Tasks.{content, created, got_answer, location_of, manifest_error, unsupported, wrong_digest};
+ghost use Rattle.hb_upload.specs.Places.{Parcel};
+
+use hb_desk::{Answer, DetailItem, DetailList, DetailValue};
+use hb_manifest::ManifestFault;
+use hb_ops::{Got, error, refused};
+use hb_records::Listed;
+use hb_text::{Digest, Memory, Name, Text};
+use std::alloc::Global;
+
+// The detail with this value alone.
+fn detail_of(alloc: Global, name: &[u8], value: DetailValue) -> Result<DetailList, Memory>
+    ensures { IfOk result (λ detail. detail ≡ record { name = name.now; value = value } ∷ []) }
+{
+    let mut detail = Listed::new(alloc);
+    let name = Text::new(alloc, name)?;
+    detail.push(DetailItem { name, value })?;
+    Ok(detail)
+}
+
+/// 400 DIGEST_INVALID: the body has another digest than the one that was announced.
+pub(crate) fn wrong_digest(alloc: Global, found: Digest) -> Result<Answer, Memory>
+    ensures { IfOk result (λ a. a ≡ error_answer (wrong_digest found)) }
+{
+    let detail = detail_of(alloc, b"found", DetailValue::Digest(found))?;
+    error(alloc, 400, b"DIGEST_INVALID", detail, None)
+}
+
+/// 404 UNSUPPORTED: nothing is built for the request yet.
+pub(crate) fn unsupported(alloc: Global) -> Result<Answer, Memory>
+    ensures { IfOk result (λ a. a ≡ error_answer unsupported) }
+{
+    error(alloc, 404, b"UNSUPPORTED", Listed::new(alloc), None)
+}
+
+/// 400 MANIFEST_INVALID: the body isn't a manifest. One that is too long is 413 SIZE_INVALID. Where memory was wanting for
+/// it, it isn't answered.
+pub(crate) fn bad_manifest(alloc: Global, fault: ManifestFault) -> Result<Answer, Memory>
+    ensures { IfOk result (λ a. (fault ≢ ManifestFault.Memory) × (a ≡ error_answer (manifest_error fault))) }
+{
+    match fault {
+        ManifestFault::BadDescriptor { place } => {
+            let detail = detail_of(alloc, b"place", DetailValue::Number(u128::from(place)))?;
+            error(alloc, 400, b"MANIFEST_INVALID", detail, None)
+        }
+        ManifestFault::TooLong => error(alloc, 413, b"SIZE_INVALID", Listed::new(alloc), None),
+        ManifestFault::Memory => Err(Memory),
+        ManifestFault::MediaUnknown
+        | ManifestFault::NotJson
+        | ManifestFault::NoSchema
+        | ManifestFault::TooMany => {
+            error(alloc, 400, b"MANIFEST_INVALID", Listed::new(alloc), None)
+        }
+    }
+}
+
+/// Where content stands, under `/blobs/` or `/manifests/`.
+pub(crate) fn location(
+    alloc: Global,
+    name: &Name,
+    path: &[u8],
+    digest: &Digest,
+) -> Result<Text, Memory>
+    ensures { IfOk result (λ text. text ≡ codes "/v2/" ++ name.now ++ path.now ++ digest_text digest.now) }
+{
+    let mut text = Vec::from_slice(alloc, b"/v2/")?;
+    text.extend_from_slice(name.bytes())?;
+    text.extend_from_slice(path)?;
+    text.extend_from_slice(&digest.write())?;
+    Ok(Text::of(text))
+}
+
+/// 201: the content stands there. It takes no memory.
+pub(crate) fn created(alloc: Global, location: Text, digest: Digest) -> Answer
+    ensures { (b : Parcel) → location ≡ location_of b → b.digest ≡ digest → result ≡ created b }
+{
+    Answer {
+        status: 201,
+        code: None,
+        detail: Listed::new(alloc),
+        length: Some(0),
+        media: None,
+        digest: Some(digest),
+        link: None,
+        location: Some(location),
+        range: None,
+        retry: None,
+        body: None,
+    }
+}
+
+// 200 with content. Of a blob the type isn't told.
+fn content(
+    alloc: Global,
+    digest: Digest,
+    media: Option<Text>,
+    bytes: Text,
+) -> Result<Answer, Memory>
+    ensures { IfOk result (λ a. a ≡ content digest media bytes) }
+{
+    let media = match media {
+        Some(media) => media,
+        None => Text::new(alloc, b"application/octet-stream")?,
+    };
+    Ok(Answer {
+        status: 200,
+        code: None,
+        detail: Listed::new(alloc),
+        length: None,
+        media: Some(media),
+        digest: Some(digest),
+        link: None,
+        location: None,
+        range: None,
+        retry: None,
+        body: Some(bytes),
+    })
+}
+
+/// What a get is answered.
+pub(crate) fn got(alloc: Global, got: Got) -> Result<Answer, Memory>
+    ensures { IfOk result (λ a. a ≡ got_answer got) }
+{
+    match got {
+        Got::Content {
+            digest,
+            media,
+            bytes,
+        } => content(alloc, digest, media, bytes),
+        Got::Refused { refusal, moment } => refused(alloc, &refusal, moment),
+    }
+}

@@ -1,0 +1,22 @@
+//! One connection over a desk: requests are read, done, and answered.
+//!
+//! - [`talk`]: reads requests from a source and writes their answers to a sink, until the input ends, a request closes the
+//!   connection, or a device fails. It works over every [`hb_desk::Desk`], whatever others do between its events.
+//! - [`TalkEnd`]: how it ended.
+//! - `specs/Talks`: what a talk has done. `specs/Turns`: each request with its answer. `specs/Wanting`: which requests are
+//!   served. `specs/Tasks`: what is done for one, and what it is answered by what came of that. `specs/Texts`: the text of
+//!   an answer.
+#![tactic(auto)]
+
+mod answers;
+mod coming;
+mod ends;
+mod serving;
+mod talks;
+#[cfg(test)]
+mod tests;
+mod texts;
+mod wanted;
+
+pub use ends::TalkEnd;
+pub use talks::talk;
