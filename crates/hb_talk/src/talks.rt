@@ -5,7 +5,7 @@ ghost use Rattle.hb_http.specs.AnswerHeads.{HasPhrase};
 ghost use Rattle.hb_http.specs.Readings.{Given};
 ghost use Rattle.hb_http.specs.Standing.{fresh};
 ghost use Rattle.hb_http.specs.declared.TheConstants.{MAX_HEAD};
-ghost use Rattle.hb_desk.specs.Points.{IsStreamFault};
+ghost use Rattle.hb_desk.specs.Points.{IsStreamFault, Moves};
 ghost use Rattle.hb_talk.specs.Comings.{ComesOf};
 ghost use Rattle.hb_talk.specs.Progress.{Answered, Begins, Came, Comes, Gathers, GoesOn, Progress, Reads, Served, end_of, work_left};
 ghost use Rattle.hb_talk.specs.Talks.{Moment, Talked, now_of};
@@ -74,6 +74,7 @@ fn answer_of<D: Desk, C: Clock>(
 ) -> Result<Answer, Memory>
     ensures served { (g : Given) → ComesOf coming.wanted coming.media coming.last g.head → IfSome coming.wanted (λ w. coming.body.items ≡ g.content)
         → IfSome (D.view desk.old).state (λ s. Served (IsStreamFault D.Stage D.Reader D.Stage.faults D.Reader.faults) (D.view desk.old) (D.view desk.new) g result) }
+    ensures moves { Moves (D.view desk.old) (D.view desk.new) }
     ensures phrase { IfOk result (λ a. HasPhrase a.status) }
 {
     let Coming {
@@ -177,6 +178,7 @@ impl Connection {
         out: &mut O,
     ) -> Turned
         ensures answered { (g : Given) → Comes self.old.coming (Some g) → Answered (IsStreamFault D.Stage D.Reader D.Stage.faults D.Reader.faults) (D.view desk.old) (D.view desk.new) (O.held out.old) (O.held out.new) g result }
+        ensures moves { Moves (D.view desk.old) (D.view desk.new) }
         ensures next { self.new ≡ record { standing = self.old.standing; coming = None; taken = self.old.taken } }
         ensures later { O.faults out.old ≤ O.faults out.new }
         ensures written { result ≡ Turned.Ended TalkEnd.WriteFault → Rose (O.faults out.old) (O.faults out.new) }
@@ -232,6 +234,7 @@ impl Connection {
     ) -> Turned
         ensures talk { (start : Moment) → Progress (IsStreamFault D.Stage D.Reader D.Stage.faults D.Reader.faults) start (now_of (D.view desk.old) (I.left input.old) (I.ended input.old) (O.held out.old)) self.old
             → GoesOn (IsStreamFault D.Stage D.Reader D.Stage.faults D.Reader.faults) start (now_of (D.view desk.new) (I.left input.new) (I.ended input.new) (O.held out.new)) self.new result }
+        ensures moves { Moves (D.view desk.old) (D.view desk.new) }
         ensures less { result ≡ Turned.More → work_left self.new < work_left self.old }
         ensures read_later { I.faults input.old ≤ I.faults input.new }
         ensures write_later { O.faults out.old ≤ O.faults out.new }
@@ -258,6 +261,7 @@ impl Connection {
     ) -> TalkEnd
         ensures talk { (start : Moment) → Progress (IsStreamFault D.Stage D.Reader D.Stage.faults D.Reader.faults) start (now_of (D.view desk.old) (I.left input.old) (I.ended input.old) (O.held out.old)) self.old
             → Talked (IsStreamFault D.Stage D.Reader D.Stage.faults D.Reader.faults) start (now_of (D.view desk.new) (I.left input.new) (I.ended input.new) (O.held out.new)) result }
+        ensures moves { Moves (D.view desk.old) (D.view desk.new) }
         ensures read { result ≡ TalkEnd.ReadFault → Rose (I.faults input.old) (I.faults input.new) }
         ensures written { result ≡ TalkEnd.WriteFault → Rose (O.faults out.old) (O.faults out.new) }
     {
@@ -282,6 +286,7 @@ pub fn talk<D: Desk, C: Clock, I: Source, O: Sink>(
     ensures talk { Talked (IsStreamFault D.Stage D.Reader D.Stage.faults D.Reader.faults)
         (now_of (D.view desk.old) (I.left input.old) (I.ended input.old) (O.held out.old))
         (now_of (D.view desk.new) (I.left input.new) (I.ended input.new) (O.held out.new)) result }
+    ensures moves { Moves (D.view desk.old) (D.view desk.new) }
     ensures read { result ≡ TalkEnd.ReadFault → Rose (I.faults input.old) (I.faults input.new) }
     ensures written { result ≡ TalkEnd.WriteFault → Rose (O.faults out.old) (O.faults out.new) }
 {
