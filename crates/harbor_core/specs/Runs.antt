@@ -1,19 +1,22 @@
--- A run of the program: what its words ask for, and the exit status.
-use Rattle.std.specs.Prelude.{◌≡◌, ◌≤◌, ◌⊎◌, ℕ, List, [], ◌∷◌, codes, Some, None}
-use Rattle.std.specs.declared.option.Option.{Option}
+-- A run of the program: what its words ask for, what a talk makes of its devices, and the exit status.
+use Rattle.std.specs.Prelude.{◌≡◌, ◌≤◌, ◌⊎◌, ℕ, List, [], ◌∷◌, codes, Option, Some, None, IfSome, is_some, true}
 use Rattle.hb_outside.specs.Causes.{Rose}
 use Rattle.hb_outside.specs.Streams.{Writes, WritesPart}
+use Rattle.hb_records.specs.declared.notes.Notes.{Notes}
+use Rattle.hb_rows.specs.Tables.{Tables}
+use Rattle.hb_store.specs.Contents.{Contents}
 use Rattle.hb_model.specs.Fit.{Tells}
 use Rattle.hb_model.specs.History.{latest}
-use Rattle.hb_rows.specs.Tables.{Tables}
-use Rattle.hb_world.specs.First.{HoldsPushed}
+use Rattle.hb_model.specs.Whole.{no_notes}
+use Rattle.hb_desk.specs.Clause.{View}
+use Rattle.hb_desk.specs.Keeping.{state_of}
+use Rattle.hb_desk.specs.declared.refusals.Refusal.{Refusal}
 use Rattle.hb_world.specs.Starting.{opened_by}
 use Rattle.hb_world.specs.declared.world.StartFault.{StartFault}
 use Rattle.hb_world.specs.declared.world.StartFault.TheVariants as start
-use Rattle.hb_world.specs.declared.first.Pushed.{Pushed}
-use Rattle.harbor_core.specs.Talks.{Moment, Talked}
-use Rattle.harbor_core.specs.declared.ends.TalkEnd.{TalkEnd}
-use Rattle.harbor_core.specs.declared.ends.TalkEnd.TheVariants.{Closed, Cut, Bad, Long, ReadFault, WriteFault, Memory}
+use Rattle.hb_talk.specs.Talks.{Moment, Talked}
+use Rattle.hb_talk.specs.declared.ends.TalkEnd.{TalkEnd}
+use Rattle.hb_talk.specs.declared.ends.TalkEnd.TheVariants.{Closed, Cut, Bad, Long, ReadFault, WriteFault, Memory}
 
 -- the single word `talk`
 abbrev pub IsTalk : List (List ℕ) → Type 0
@@ -35,32 +38,59 @@ status_of_fault (start.Misfit m) = 8
 status_of_fault start.Failed = 5
 status_of_fault start.Memory = 7
 
--- a start was refused by the rows or by their keeper
-abbrev pub IsUnstarted : ℕ → Type 0
-IsUnstarted status = (status ≡ 5) ⊎ (status ≡ 8)
+-- a start was refused: by the rows, by their keeper, or for want of memory
+abbrev pub IsRefused : ℕ → Type 0
+IsRefused status = (status ≡ 5) ⊎ (status ≡ 7) ⊎ (status ≡ 8)
 
 -- nothing was read or written, and the devices have what they had
-pub record NotStarted (Unread Unwritten SameStore SameRows : Type 0) : Type 0 where
+pub record NotStarted (status : ℕ) (Unread Unwritten SameStore SameRows : Type 0) : Type 0 where
+  pub refused : IsRefused status
   pub input : Unread
   pub out : Unwritten
   pub store : SameStore
   pub rows : SameRows
 
--- the rows fit, and got a first entry where they had none, at a moment that isn't before their latest
-pub record Opened (t : Tables) (rows : Option Tables) : Type 0 where
+-- what the keeper and the store tell
+pub record Devices : Type 0 where
+  pub rows : Option Tables
+  pub contents : Option Contents
+  pub keeper_faults : ℕ
+  pub store_faults : ℕ
+
+abbrev pub devices : Option Tables → Option Contents → ℕ → ℕ → Devices
+devices rows contents keeper_faults store_faults = record { rows = rows; contents = contents; keeper_faults = keeper_faults; store_faults = store_faults }
+
+-- The rows fit, and got a first entry where they had none, at a moment that isn't before their latest. Nothing is
+-- remembered of uploads.
+pub record OpenedOn (t : Tables) (v : View) : Type 0 where
   pub fits : Tells t None
   pub moment : ℕ
   pub later : latest t.audit ≤ moment
-  pub opened : rows ≡ Some (opened_by t.audit moment t)
+  pub state : v.state ≡ Some (state_of (opened_by t.audit moment t) no_notes)
 
--- The rows after a run: as they were, where it wasn't started or memory was wanting; else opened.
-abbrev pub RowsAfter : Option Tables → Option Tables → ℕ → Type 0
-RowsAfter None rows status = rows ≡ None
-RowsAfter (Some t) rows status = ((rows ≡ Some t) × (IsUnstarted status ⊎ (status ≡ 7))) ⊎ Opened t rows
+-- A desk that opened on these devices: nobody else acts on it, and what was stored is told where the store tells it.
+pub record Opened (before : Devices) (v : View) : Type 0 where
+  pub rows : IfSome before.rows (λ t. OpenedOn t v)
+  pub keeper : before.keeper_faults ≤ v.keeper_faults
+  pub store : v.store_faults ≡ before.store_faults
+  pub told_bytes : v.told_bytes ≡ is_some before.contents
+  pub sole : v.sole ≡ true
 
--- a talk ran, its end gives the status, and the store holds what was pushed
-abbrev pub RanTalk : (ℕ → ℕ → Type 0) → Moment → (List Pushed → Moment) → ℕ → Type 0
-RanTalk StorageRose start now status = (end : TalkEnd) × (pushed : List Pushed) × (status ≡ status_of end) × Talked StorageRose start (now pushed) end × HoldsPushed (now pushed).contents pushed
+-- The devices that a desk leaves: their rows are those of the audit that it has seen.
+pub record Left (after : Devices) (v : View) : Type 0 where
+  pub rows : IfSome after.rows (λ r. (n : Notes) × (v.state ≡ Some (state_of r n)))
+  pub keeper : after.keeper_faults ≡ v.keeper_faults
+  pub store : after.store_faults ≡ v.store_faults
+
+-- A talk ran at a desk that opened on the devices and left them, and its end gives the status.
+pub record RanTalk (Streams : Option Refusal → Type 0) (start now : View → Moment) (before after : Devices) (status : ℕ) : Type 0 where
+  pub end : TalkEnd
+  pub status_is : status ≡ status_of end
+  pub opened : View
+  pub closed : View
+  pub talked : Talked Streams (start opened) (now closed) end
+  pub opens : Opened before opened
+  pub leaves : Left after closed
 
 -- `usage` and a line feed were written, or a part of them where the sink failed
 abbrev pub SaysUsage : Option (List ℕ) → Option (List ℕ) → ℕ → ℕ → Type 0

@@ -1,18 +1,9 @@
 //! Harbor core: the program.
 #![tactic(auto)]
 
-mod answers;
-mod ends;
-mod filled;
-mod first_requests;
-mod fronts;
-mod incoming;
 mod run;
-mod serving;
-mod talk;
 #[cfg(test)]
 mod tests;
-mod whole;
 
 use crate::run::run;
 use hb_keeper::MemKeeper;

@@ -1,18 +1,19 @@
 //! The top call.
-ghost use Rattle.std.specs.Prelude.{◌≡◌, ◌↔◌, ◌≤◌, ◌⊎◌, [], codes, IsTrue};
+ghost use Rattle.std.specs.Prelude.{◌≡◌, ◌↔◌, ◌≤◌, ◌⊎◌, codes, IsTrue};
 ghost use Rattle.hb_outside.specs.Causes.{Rose};
-ghost use Rattle.hb_store.specs.Causes.{StorageRose};
+ghost use Rattle.hb_desk.specs.Points.{IsStreamFault};
 ghost use Rattle.hb_world.specs.Starting.{CanStart, IsAtRest, IsMisfit};
-ghost use Rattle.harbor_core.specs.Runs.{IsTalk, IsUnstarted, RanTalk, SaysUsage, RowsAfter, NotStarted, status_of, status_of_fault};
-ghost use Rattle.harbor_core.specs.Talks.{now_of};
+ghost use Rattle.hb_world.specs.Worlds.{WorldParts, shown, view_of};
+ghost use Rattle.hb_talk.specs.Talks.{Talked, now_of};
+ghost use Rattle.hb_talk.specs.declared.ends.TalkEnd.{TalkEnd as End};
+ghost use Rattle.harbor_core.specs.Runs.{IsTalk, NotStarted, RanTalk, SaysUsage, devices, status_of, status_of_fault};
 
-use crate::ends::TalkEnd;
-use crate::talk::talk;
 use hb_keeper::Keeper;
 use hb_outside::{Clock, Sink, Source};
 use hb_store::Store;
+use hb_talk::{TalkEnd, talk};
 use hb_text::Text;
-use hb_world::{StartFault, World, first};
+use hb_world::{StartFault, World};
 use std::alloc::Global;
 
 /// The exit status of a run, and the devices that it hands back.
@@ -62,24 +63,31 @@ fn status_of_fault(fault: StartFault) -> u8
     }
 }
 
-// Talks over one connection, over a store whose blobs a first world pushes and opens.
-fn converse<S: Store, C: Clock, I: Source, O: Sink>(
+// Talks over one connection, and hands back the devices of the world.
+fn converse<K: Keeper, S: Store, C: Clock, I: Source, O: Sink>(
     alloc: Global,
     clock: &mut C,
     input: &mut I,
     out: &mut O,
-    store: S,
-) -> (u8, S)
-    ensures talked { RanTalk (StorageRose S.Stage S.Reader S.Stage.faults S.Reader.faults)
-        (now_of (S.contents store) (S.faults store) [] (I.left input.old) (I.ended input.old) (O.held out.old))
-        (λ pushed. now_of (S.contents result.1) (S.faults result.1) pushed (I.left input.new) (I.ended input.new) (O.held out.new))
-        result.0 }
-    ensures read { result.0 ≡ 3 → Rose (I.faults input.old) (I.faults input.new) }
-    ensures written { result.0 ≡ 4 → Rose (O.faults out.old) (O.faults out.new) }
+    world: World<K, S>,
+) -> Ended<K, S>
+    ensures talked { (end : End) × (left : WorldParts K S) × (result.status ≡ status_of end) × (result.keeper ≡ left.keeper) × (result.store ≡ left.store)
+        × Talked (IsStreamFault S.Stage S.Reader S.Stage.faults S.Reader.faults)
+        (now_of (view_of (shown K.rows K.faults S.contents S.faults world)) (I.left input.old) (I.ended input.old) (O.held out.old))
+        (now_of (view_of (shown K.rows K.faults S.contents S.faults left)) (I.left input.new) (I.ended input.new) (O.held out.new)) end }
+    ensures rest { IsAtRest (K.rows result.keeper) (S.contents result.store) }
+    ensures later { K.faults world.keeper ≤ K.faults result.keeper }
+    ensures read { result.status ≡ 3 → Rose (I.faults input.old) (I.faults input.new) }
+    ensures written { result.status ≡ 4 → Rose (O.faults out.old) (O.faults out.new) }
 {
-    let mut world = first::World::new(alloc, store);
+    let mut world = world;
     let end = talk(alloc, &mut world, clock, input, out);
-    (status_of(end), world.close())
+    let (keeper, store) = world.close();
+    Ended {
+        status: status_of(end),
+        keeper,
+        store,
+    }
 }
 
 /// Does what the words say over these devices, and hands them back with an exit status.
@@ -111,13 +119,13 @@ pub fn run<K: Keeper, S: Store, C: Clock, I: Source, O: Sink>(
     store: S,
 ) -> Ended<K, S>
     requires can { CanStart (K.rows keeper) (S.contents store) }
-    // What is written are the answers of the requests that were read, each by its cause.
-    ensures talked { IsTalk words.now → ¬ (IsUnstarted result.status) → RanTalk (StorageRose S.Stage S.Reader S.Stage.faults S.Reader.faults)
-        (now_of (S.contents store) (S.faults store) [] (I.left input.old) (I.ended input.old) (O.held out.old))
-        (λ pushed. now_of (S.contents result.store) (S.faults result.store) pushed (I.left input.new) (I.ended input.new) (O.held out.new))
-        result.status }
-    ensures unstarted { IsTalk words.now → IsUnstarted result.status → NotStarted (input.new ≡ input.old) (out.new ≡ out.old) (result.store ≡ store) (K.rows result.keeper ≡ K.rows keeper) }
-    ensures rows { IsTalk words.now → RowsAfter (K.rows keeper) (K.rows result.keeper) result.status }
+    // A talk ran over a world that opened on the devices: what is written are the answers of the requests that were read,
+    // each by the points of its own events; and the rows that are left are those of the audit after the last.
+    ensures talked { IsTalk words.now → RanTalk (IsStreamFault S.Stage S.Reader S.Stage.faults S.Reader.faults)
+        (λ v. now_of v (I.left input.old) (I.ended input.old) (O.held out.old)) (λ v. now_of v (I.left input.new) (I.ended input.new) (O.held out.new))
+        (devices (K.rows keeper) (S.contents store) (K.faults keeper) (S.faults store)) (devices (K.rows result.keeper) (S.contents result.store) (K.faults result.keeper) (S.faults result.store))
+        result.status
+        ⊎ NotStarted result.status (input.new ≡ input.old) (out.new ≡ out.old) (result.store ≡ store) (K.rows result.keeper ≡ K.rows keeper) }
     ensures misfit { IsTalk words.now → IsMisfit (K.rows keeper) → (result.status ≡ 8) ⊎ (result.status ≡ 5) ⊎ (result.status ≡ 7) }
     ensures rest { IsAtRest (K.rows keeper) (S.contents store) → IsAtRest (K.rows result.keeper) (S.contents result.store) }
     ensures words { (result.status ≡ 2) ↔ ¬ (IsTalk words.now) }
@@ -136,15 +144,7 @@ pub fn run<K: Keeper, S: Store, C: Clock, I: Source, O: Sink>(
         };
     }
     match World::start(alloc, keeper, store, clock.now()) {
-        Ok(world) => {
-            let (keeper, store) = world.close();
-            let (status, store) = converse(alloc, clock, input, out, store);
-            Ended {
-                status,
-                keeper,
-                store,
-            }
-        }
+        Ok(world) => converse(alloc, clock, input, out, world),
         Err(refused) => Ended {
             status: status_of_fault(refused.fault),
             keeper: refused.keeper,

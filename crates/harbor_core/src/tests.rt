@@ -35,6 +35,45 @@ const UNSUPPORTED: &[u8] =
 const STORAGE: &[u8] =
     b"HTTP/1.1 500 Internal Server Error\r\nContent-Length: 63\r\nContent-Type: application/json\r\n\r\n{\"errors\":[{\"code\":\"STORAGE\",\"detail\":{},\"message\":\"storage\"}]}";
 
+// What docker pushes of an image with two layers, each blob in one request.
+const PUSH_CONFIG: &[u8] =
+    b"POST /v2/library/a/blobs/uploads/?digest=sha256%3A44136fa355b3678a1146ad16f7e8649e94fb4fc21fe77e8310c060f61caaff8a HTTP/1.1\r\nHost: r\r\nContent-Length: 2\r\n\r\n{}";
+
+const PUSH_NOTHING: &[u8] =
+    b"POST /v2/library/a/blobs/uploads/?digest=sha256%3Ae3b0c44298fc1c149afbf4c8996fb92427ae41e4649b934ca495991b7852b855 HTTP/1.1\r\nHost: r\r\nContent-Length: 0\r\n\r\n";
+
+const PUT_MANIFEST: &[u8] =
+    b"PUT /v2/library/a/manifests/v1 HTTP/1.1\r\nHost: r\r\nContent-Type: application/vnd.oci.image.manifest.v1+json\r\nContent-Length: 357\r\n\r\n{\"schemaVersion\":2,\"config\":{\"digest\":\"sha256:44136fa355b3678a1146ad16f7e8649e94fb4fc21fe77e8310c060f61caaff8a\",\"size\":2},\"layers\":[{\"digest\":\"sha256:ba7816bf8f01cfea414140de5dae2223b00361a396177a9cb410ff61f20015ad\",\"size\":3},{\"digest\":\"sha256:e3b0c44298fc1c149afbf4c8996fb92427ae41e4649b934ca495991b7852b855\",\"size\":0}],\"annotations\":{\"a\":\"b\"},\"unknown\":1}";
+
+const GET_TAG: &[u8] = b"GET /v2/library/a/manifests/v1 HTTP/1.1\r\nHost: r\r\n\r\n";
+
+const GET_DIGEST: &[u8] =
+    b"GET /v2/library/a/manifests/sha256:9f0545606529702c3c00fe4dcc12aa9f6a01d0e1865e177c9f9f46da1121fbed HTTP/1.1\r\nHost: r\r\n\r\n";
+
+const CREATED_CONFIG: &[u8] =
+    b"HTTP/1.1 201 Created\r\nContent-Length: 0\r\nDocker-Content-Digest: sha256:44136fa355b3678a1146ad16f7e8649e94fb4fc21fe77e8310c060f61caaff8a\r\nLocation: /v2/library/a/blobs/sha256:44136fa355b3678a1146ad16f7e8649e94fb4fc21fe77e8310c060f61caaff8a\r\n\r\n";
+
+const CREATED_NOTHING: &[u8] =
+    b"HTTP/1.1 201 Created\r\nContent-Length: 0\r\nDocker-Content-Digest: sha256:e3b0c44298fc1c149afbf4c8996fb92427ae41e4649b934ca495991b7852b855\r\nLocation: /v2/library/a/blobs/sha256:e3b0c44298fc1c149afbf4c8996fb92427ae41e4649b934ca495991b7852b855\r\n\r\n";
+
+const CREATED_MANIFEST: &[u8] =
+    b"HTTP/1.1 201 Created\r\nContent-Length: 0\r\nDocker-Content-Digest: sha256:9f0545606529702c3c00fe4dcc12aa9f6a01d0e1865e177c9f9f46da1121fbed\r\nLocation: /v2/library/a/manifests/sha256:9f0545606529702c3c00fe4dcc12aa9f6a01d0e1865e177c9f9f46da1121fbed\r\n\r\n";
+
+const GOT_MANIFEST: &[u8] =
+    b"HTTP/1.1 200 OK\r\nContent-Length: 357\r\nContent-Type: application/vnd.oci.image.manifest.v1+json\r\nDocker-Content-Digest: sha256:9f0545606529702c3c00fe4dcc12aa9f6a01d0e1865e177c9f9f46da1121fbed\r\n\r\n{\"schemaVersion\":2,\"config\":{\"digest\":\"sha256:44136fa355b3678a1146ad16f7e8649e94fb4fc21fe77e8310c060f61caaff8a\",\"size\":2},\"layers\":[{\"digest\":\"sha256:ba7816bf8f01cfea414140de5dae2223b00361a396177a9cb410ff61f20015ad\",\"size\":3},{\"digest\":\"sha256:e3b0c44298fc1c149afbf4c8996fb92427ae41e4649b934ca495991b7852b855\",\"size\":0}],\"annotations\":{\"a\":\"b\"},\"unknown\":1}";
+
+const NO_NAME: &[u8] =
+    b"HTTP/1.1 404 Not Found\r\nContent-Length: 73\r\nContent-Type: application/json\r\n\r\n{\"errors\":[{\"code\":\"NAME_UNKNOWN\",\"detail\":{},\"message\":\"name unknown\"}]}";
+
+const KEEPER: &[u8] =
+    b"HTTP/1.1 500 Internal Server Error\r\nContent-Length: 61\r\nContent-Type: application/json\r\n\r\n{\"errors\":[{\"code\":\"KEEPER\",\"detail\":{},\"message\":\"keeper\"}]}";
+
+const LONG_HEAD: &[u8] =
+    b"POST /v2/library/a/blobs/uploads/?digest=sha256:ba7816bf8f01cfea414140de5dae2223b00361a396177a9cb410ff61f20015ad HTTP/1.1\r\nContent-Length: ";
+
+const FOUND_ZEROS: &[u8] =
+    b"HTTP/1.1 400 Bad Request\r\nContent-Length: 158\r\nContent-Type: application/json\r\n\r\n{\"errors\":[{\"code\":\"DIGEST_INVALID\",\"detail\":{\"found\":\"sha256:de2f256064a0af797747c2b97505dc0b9f3df0de4f489eac731c23ae9ca9cc31\"},\"message\":\"digest invalid\"}]}";
+
 // What a talk answers and how it ends.
 fn talk(
     alloc: Global,
@@ -88,6 +127,44 @@ fn a_blob_is_pushed_and_pulled(rt: HostRuntime) -> Result<(), Fail> {
     Ok(())
 }
 
+// An image is pushed, and pulled by its tag and by its digest, behind a push and a pull on the same connection.
+#[test]
+fn an_image_is_pushed_and_pulled(rt: HostRuntime) -> Result<(), Fail> {
+    let alloc = rt.alloc();
+    let input = joined(
+        alloc,
+        &[
+            PUSH,
+            PULL,
+            PUSH_CONFIG,
+            PUSH,
+            PUSH_NOTHING,
+            PUT_MANIFEST,
+            GET_TAG,
+            GET_DIGEST,
+        ],
+    )?;
+    let output = joined(
+        alloc,
+        &[
+            CREATED,
+            PULLED,
+            CREATED_CONFIG,
+            CREATED,
+            CREATED_NOTHING,
+            CREATED_MANIFEST,
+            GOT_MANIFEST,
+            GOT_MANIFEST,
+        ],
+    )?;
+    for cut in [100, 65_536] {
+        let (status, said) = plain(alloc, &input, cut)?;
+        assert_eq!(rt; status, 0, "pieces of {cut}");
+        assert_eq!(rt; said.as_slice(), output.as_slice());
+    }
+    Ok(())
+}
+
 #[test]
 fn blobs_are_pushed_and_pulled_however_the_input_is_cut(rt: HostRuntime) -> Result<(), Fail> {
     let alloc = rt.alloc();
@@ -104,7 +181,7 @@ fn blobs_are_pushed_and_pulled_however_the_input_is_cut(rt: HostRuntime) -> Resu
 #[test]
 fn each_request_has_its_answer(rt: HostRuntime) -> Result<(), Fail> {
     let alloc = rt.alloc();
-    let cases: [(&[u8], &[u8]); 8] = [
+    let cases: [(&[u8], &[u8]); 7] = [
         (b"", b""),
         (PULL, UNKNOWN),
         // the empty blob
@@ -124,14 +201,10 @@ fn each_request_has_its_answer(rt: HostRuntime) -> Result<(), Fail> {
         ),
         (
             b"GET /v2/other/a/blobs/sha256:ba7816bf8f01cfea414140de5dae2223b00361a396177a9cb410ff61f20015ad HTTP/1.1\r\n\r\n",
-            UNSUPPORTED,
+            NO_NAME,
         ),
         (
             b"POST /v2/library/a/blobs/uploads/?digest=sha256:ba7816bf8f01cfea414140de5dae2223b00361a396177a9cb410ff61f20015ad HTTP/1.1\r\nTransfer-Encoding: chunked\r\n\r\n3\r\nabc\r\n0\r\n\r\n",
-            UNSUPPORTED,
-        ),
-        (
-            b"POST /v2/library/a/blobs/uploads/?digest=sha256:ba7816bf8f01cfea414140de5dae2223b00361a396177a9cb410ff61f20015ad HTTP/1.1\r\nContent-Length: 65537\r\n\r\n",
             UNSUPPORTED,
         ),
     ];
@@ -139,6 +212,26 @@ fn each_request_has_its_answer(rt: HostRuntime) -> Result<(), Fail> {
         let (status, said) = plain(alloc, input, 65_536)?;
         assert_eq!(rt; status, 0);
         assert_eq!(rt; said.as_slice(), output);
+    }
+    Ok(())
+}
+
+// A body of 65,536 bytes is served, and a longer one isn't.
+#[test]
+fn a_body_above_the_limit_is_not_served(rt: HostRuntime) -> Result<(), Fail> {
+    let alloc = rt.alloc();
+    for (length, answer) in [("65536", FOUND_ZEROS), ("65537", UNSUPPORTED)] {
+        let mut input = joined(alloc, &[LONG_HEAD])?;
+        input.extend_from_slice(length.as_bytes())?;
+        input.extend_from_slice(b"\r\n\r\n")?;
+        let body = vec![in alloc; 0u8; 65_536]?;
+        input.extend_from_slice(&body)?;
+        if length == "65537" {
+            input.extend_from_slice(b"0")?;
+        }
+        let (status, said) = plain(alloc, &input, 65_536)?;
+        assert_eq!(rt; status, 0);
+        assert_eq!(rt; said.as_slice(), answer);
     }
     Ok(())
 }
@@ -271,17 +364,18 @@ fn other_words_are_answered_with_usage(rt: HostRuntime) -> Result<(), Fail> {
     Ok(())
 }
 
-// A push and its pull over this keeper: how it ends, and what was written.
+// These requests over this keeper: how it ends, and what was written.
 fn over(
     alloc: Global,
     keeper: MemKeeper,
     store: MemStore,
+    requests: &[&'static [u8]],
 ) -> Result<(Ended<MemKeeper, MemStore>, Vec<u8>), Fail>
     requires { IsAtRest (Some keeper.rows) (Some (contents_of store)) }
     ensures { IfOk result (λ made. IsAtRest (Some made.0.keeper.rows) (Some (contents_of made.0.store))) }
 {
     let words = vec![in alloc; Text::new(alloc, b"talk")?]?;
-    let input = joined(alloc, &[PUSH, PULL])?;
+    let input = joined(alloc, requests)?;
     let mut source = MemSource::new(input, Vec::new(alloc), Vec::new(alloc));
     let mut sink = MemSink::new(alloc, 10_000, Vec::new(alloc))?;
     let mut clock = StepClock::new(5, 1);
@@ -364,10 +458,15 @@ fn a_keeper_that_fails_ends_a_run(rt: HostRuntime) -> Result<(), Fail> {
     let alloc = rt.alloc();
     for call in [1, 10, 11] {
         let keeper = MemKeeper::new(alloc, vec![in alloc; call]?);
-        let (ended, said) = over(alloc, keeper, MemStore::new(alloc, Vec::new(alloc)))?;
+        let (ended, said) = over(
+            alloc,
+            keeper,
+            MemStore::new(alloc, Vec::new(alloc)),
+            &[PUSH, PULL],
+        )?;
         assert_eq!(rt; ended.status, 5);
         assert_eq!(rt; said.len(), 0);
-        let (ended, said) = over(alloc, ended.keeper, ended.store)?;
+        let (ended, said) = over(alloc, ended.keeper, ended.store, &[PUSH, PULL])?;
         assert_eq!(rt; ended.status, 0);
         assert_eq!(rt;
             said.as_slice(),
@@ -377,20 +476,34 @@ fn a_keeper_that_fails_ends_a_run(rt: HostRuntime) -> Result<(), Fail> {
     Ok(())
 }
 
+// Each call of the keeper that a push makes fails once. It is answered, and the talk goes on.
+#[test]
+fn a_keeper_call_that_fails_is_answered(rt: HostRuntime) -> Result<(), Fail> {
+    let alloc = rt.alloc();
+    let output = joined(alloc, &[KEEPER, CREATED, PULLED])?;
+    for call in 12..24 {
+        let keeper = MemKeeper::new(alloc, vec![in alloc; call]?);
+        let store = MemStore::new(alloc, Vec::new(alloc));
+        let (ended, said) = over(alloc, keeper, store, &[PUSH, PUSH, PULL])?;
+        assert_eq!(rt; ended.status, 0);
+        assert_eq!(rt; said.as_slice(), output.as_slice(), "at {call}");
+    }
+    Ok(())
+}
+
+// What was acknowledged is there for the next run, which adds no entry for a pull.
 #[test]
 fn a_run_starts_on_what_another_left(rt: HostRuntime) -> Result<(), Fail> {
     let alloc = rt.alloc();
     let keeper = MemKeeper::new(alloc, Vec::new(alloc));
-    let (first, _said) = over(alloc, keeper, MemStore::new(alloc, Vec::new(alloc)))?;
+    let store = MemStore::new(alloc, Vec::new(alloc));
+    let (first, _said) = over(alloc, keeper, store, &[PUSH, PULL])?;
     assert_eq!(rt; first.status, 0);
-    assert_eq!(rt; first.keeper.rows().entries().len(), 1);
-    let (second, said) = over(alloc, first.keeper, first.store)?;
+    assert_eq!(rt; first.keeper.rows().entries().len(), 4);
+    let (second, said) = over(alloc, first.keeper, first.store, &[PULL])?;
     assert_eq!(rt; second.status, 0);
-    assert_eq!(rt;
-        said.as_slice(),
-        joined(alloc, &[CREATED, PULLED])?.as_slice()
-    );
-    assert_eq!(rt; second.keeper.rows().entries().len(), 1);
+    assert_eq!(rt; said.as_slice(), PULLED);
+    assert_eq!(rt; second.keeper.rows().entries().len(), 4);
     assert_eq!(rt; second.keeper.rows().projects().len(), 1);
     Ok(())
 }

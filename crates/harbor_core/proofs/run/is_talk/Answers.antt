@@ -1,5 +1,5 @@
 use Rattle.std.proofs.Common.{◌≡◌, [], ◌∷◌, codes, ap, ◌∙◌, arith}
-use Rattle.harbor_core.proofs.Pieces.{one_item}
+use Rattle.harbor_core.proofs.Running.{one_item}
 use Rattle.harbor_core.proofs.run.is_talk.Goals as goal
 
 pub returns-in-len1 : goal.returns-in-len1

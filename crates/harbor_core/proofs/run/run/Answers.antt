@@ -1,16 +1,35 @@
-use Rattle.std.proofs.Common.{ap}
-use Rattle.hb_store.specs.Causes.{StorageRose}
-use Rattle.harbor_core.proofs.Running.{at-rest-after, started-fits, unstarted-talk}
+use Rattle.std.proofs.Common.{◌≡◌, IfSome, Some, ap, inl, is_some, refl, subst, sym}
+use Rattle.hb_records.specs.declared.notes.Notes.{Notes}
+use Rattle.hb_desk.specs.Clause.{View}
+use Rattle.hb_desk.specs.Keeping.{state_of}
+use Rattle.hb_world.specs.Worlds.{shown, view_of}
+use Rattle.harbor_core.proofs.Running.{left-rows, opened-on, started-fits}
 use Rattle.harbor_core.proofs.run.run.Goals as goal
+
+pub returns-in-Ok-clause-talked : goal.returns-in-Ok-clause-talked
+returns-in-Ok-clause-talked g c = λ talk.
+    let ran = c.converse.ensures.talked in
+    let opened : View = view_of (shown g.K.Keeper.rows g.K.Keeper.faults g.S.Store.contents g.S.Store.faults c.in-Ok.world) in
+    let closed : View = view_of (shown g.K.Keeper.rows g.K.Keeper.faults g.S.Store.contents g.S.Store.faults ran.1) in
+    inl (record {
+      end = ran.0;
+      status_is = ran.2;
+      opened = opened;
+      closed = closed;
+      talked = ran.5;
+      opens = record {
+        rows = opened-on (g.K.Keeper.rows c.args.keeper) (g.K.Keeper.rows c.in-Ok.world.keeper) c.now.result c.in-Ok.world.moment c.in-Ok.world.notes opened c.in-Ok.ensures.started c.in-Ok.ensures.fresh.0 refl;
+        keeper = c.in-Ok.ensures.later;
+        store = ap (λ s. g.S.Store.faults s) c.in-Ok.ensures.store;
+        told_bytes = ap (λ s. is_some (g.S.Store.contents s)) c.in-Ok.ensures.store;
+        sole = refl;
+      };
+      leaves = record {
+        rows = subst (λ k. IfSome (g.K.Keeper.rows k) (λ r. (n : Notes) × (closed.state ≡ Some (state_of r n)))) (sym ran.3) (left-rows (g.K.Keeper.rows ran.1.keeper) ran.1.notes closed.state refl);
+        keeper = ap (λ k. g.K.Keeper.faults k) ran.3;
+        store = ap (λ s. g.S.Store.faults s) ran.4;
+      };
+    })
 
 pub returns-in-Ok-clause-misfit : goal.returns-in-Ok-clause-misfit
 returns-in-Ok-clause-misfit g c = λ talk misfit. absurd (started-fits (g.K.Keeper.rows c.args.keeper) _ _ _ c.in-Ok.ensures.started misfit)
-
-pub returns-in-Ok-clause-rest : goal.returns-in-Ok-clause-rest
-returns-in-Ok-clause-rest g c = λ _. at-rest-after (g.K.Keeper.rows c.close-keeper.result.0) (g.S.Store.contents c.close-keeper.result.1) (g.S.Store.contents c.converse-status.result.1) c.close-keeper.ensures.rest c.converse-status.ensures.talked.3.stands
-
-pub returns-in-Err-clause-talked : goal.returns-in-Err-clause-talked
-returns-in-Err-clause-talked g c = λ talk begun.
-    unstarted-talk (StorageRose g.row.S-Stage.Denot g.row.S-Reader.Denot g.S.Stage.Stage.faults g.S.Reader.Reader.faults) (g.S.Store.contents c.args.store) (g.S.Store.contents c.in-Err.refused.store) (g.S.Store.faults c.args.store) (g.S.Store.faults c.in-Err.refused.store)
-    (g.I.Source.left c.args.input.now) (g.I.Source.ended c.args.input.now) (g.O.Sink.held c.args.out.now) c.in-Err.refused.fault c.status_of_fault.result c.status_of_fault.ensures
-    (ap (λ s. g.S.Store.contents s) c.in-Err.ensures.kept) (ap (λ s. g.S.Store.faults s) c.in-Err.ensures.kept) begun
