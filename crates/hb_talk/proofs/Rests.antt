@@ -1,5 +1,5 @@
 -- Bytes that hold no further part of a request begin with no whole one.
-use Rattle.std.proofs.Common.{◌≡◌, ◌≢◌, ◌<◌, ◌+◌, ◌∙◌, ⊎_elim, ℕ, List, [], ◌∷◌, ◌++◌, length, Option, Some, None, refl, sym, ap, subst, arith, append_assoc, append-nil, length-append}
+use Rattle.std.proofs.Common.{◌≡◌, ◌≢◌, ◌<◌, ◌+◌, ◌∙◌, ⊎_elim, ℕ, List, [], ◌∷◌, ◌++◌, length, Option, Some, None, refl, sym, ap, subst, inl, inr, arith, append_assoc, append-nil, length-append}
 use Rattle.std.proofs.lemmas.List.{append_cancel_left}
 use Rattle.std.proofs.lemmas.List.Sums.{fold-append}
 use Rattle.httparse.specs.Grammar.{ReadsRequest, RequestHead, print_request}
@@ -16,6 +16,7 @@ use Rattle.hb_http.specs.declared.chunk_places.ChunkPlace.{ChunkPlace}
 use Rattle.hb_http.specs.declared.chunk_places.ChunkPlace.TheVariants.{Over, Bad as BadBody}
 use Rattle.hb_http.specs.declared.places.Place.{Place}
 use Rattle.hb_http.specs.declared.places.Place.TheVariants.{Between, Counted, Chunked}
+use Rattle.hb_talk.specs.Talks.{IsUnreadable}
 use Rattle.hb_http.proofs.ChunkLaws.{bad_stays}
 use Rattle.hb_http.proofs.ChunkRuns.{run_body}
 use Rattle.hb_http.proofs.FramingLaws.{HasLength-not_chunked, HasLength-unique}
@@ -117,3 +118,23 @@ rest-bad (Chunked place) (Some g) begun waiting is bad = bad-none (begun ++ wait
 -- and where a head is above its limits
 pub many-none : (bytes : List ℕ) → HasTooManyHeaders bytes → HasNoRequest IsBodyText bytes
 many-none bytes many r more begins = IsHead-not_many bytes r.head (r.body ++ more) (record { reads = head-reads bytes r more begins; few = begins.0.few; short = begins.0.short }) many
+
+-- ---- why nothing further is read
+-- malformed bytes behind what a session took are malformed with it
+pub unreadable : (place : Place) (now : Option Given) (begun waiting : List ℕ) → IsBegun place now begun → IsBad place waiting → IsUnreadable (begun ++ waiting)
+unreadable Between None begun waiting is bad = subst (λ (b : List ℕ). IsUnreadable (b ++ waiting)) (sym is) (inl bad.0)
+unreadable Between (Some g) begun waiting is bad = absurd is
+unreadable (Counted left) now begun waiting is bad = absurd bad
+unreadable (Chunked place) None begun waiting is bad = absurd is
+unreadable (Chunked place) (Some g) begun waiting is bad = inr (inr (inr (
+  g.head,
+  is.begun ++ waiting,
+  IsHead-append begun waiting g.head is.begun is.is_head,
+  is.chunked,
+  (
+    is.begun ++ bad.0,
+    bad.1,
+    ap (λ (b : List ℕ). is.begun ++ b) bad.2 ∙ sym (append_assoc is.begun bad.0 bad.1),
+    fold-append chunk_step body_start is.begun bad.0 ∙ (ap (λ (p : ChunkPlace). place_after p bad.0) is.arrives ∙ bad.3.arrives),
+  ),
+)))

@@ -16,7 +16,7 @@ use Rattle.hb_desk.specs.Points.{Point}
 use Rattle.hb_desk.specs.State.{State}
 use Rattle.hb_desk.specs.declared.refusals.Refusal.{Refusal}
 use Rattle.hb_talk.specs.Progress.{Comes, NextTurn, Progress, Reads, TalkParts}
-use Rattle.hb_talk.specs.Talks.{AtDesk, BeginWith, Closes, HasCause, Moment, Talked, Unanswered, Wrote}
+use Rattle.hb_talk.specs.Talks.{AtDesk, BeginWith, Closes, HasCause, IsUnreadable, Moment, Talked, Unanswered, Wrote}
 use Rattle.hb_talk.specs.Talks as talks
 use Rattle.hb_talk.specs.Texts.{answer_text}
 use Rattle.hb_talk.specs.Turns.{Answers, ClosesBy, Turn, given_by, points_of, turns_text}
@@ -27,7 +27,7 @@ use Rattle.hb_talk.specs.declared.ends.TalkEnd.TheVariants as end
 use Rattle.hb_talk.specs.declared.ends.Turned.TheVariants.{More, Ended}
 use Rattle.hb_talk.proofs.Chains.{chain-append, chain-bytes, chain-told}
 use Rattle.hb_talk.proofs.Requests.{all-of, all-to-last, begun-some, front-of}
-use Rattle.hb_talk.proofs.Rests.{many-none, rest-bad, rest-none}
+use Rattle.hb_talk.proofs.Rests.{many-none, rest-bad, rest-none, unreadable}
 use Rattle.hb_talk.proofs.Streams.{Gives-append, Gives-none, Writes-append, Writes-none, WritesPart-append}
 
 -- ---- lists of turns
@@ -152,11 +152,11 @@ module _ (Streams : Option Refusal → Type 0) (start now : Moment) (talk : Talk
         desk = so_far.desk;
       }
 
-  pub ended-bad : talk.taken ≤ 2 ^ 62 → HasNoRequest IsBodyText rest → Talked Streams start now end.Bad
-  ended-bad most none = ended-none end.Bad most none (λ rs h. h) (λ h. h) tt refl
+  pub ended-bad : talk.taken ≤ 2 ^ 62 → HasNoRequest IsBodyText rest → IsUnreadable rest → Talked Streams start now end.Bad
+  ended-bad most none cause = ended-none end.Bad most none (λ rs h. h) (λ h. h) cause refl
 
   pub bad-ends : talk.taken ≤ 2 ^ 62 → IsBad talk.standing.place talk.standing.waiting → Talked Streams start now end.Bad
-  bad-ends most bad = ended-bad most (rest-bad talk.standing.place so_far.given so_far.reads.begun talk.standing.waiting so_far.reads.is_begun bad)
+  bad-ends most bad = ended-bad most (rest-bad talk.standing.place so_far.given so_far.reads.begun talk.standing.waiting so_far.reads.is_begun bad) (unreadable talk.standing.place so_far.given so_far.reads.begun talk.standing.waiting so_far.reads.is_begun bad)
 
   -- between two requests the rest is what waits
   rest-waits : talk.standing.place ≡ Between → rest ≡ talk.standing.waiting
@@ -167,10 +167,10 @@ module _ (Streams : Option Refusal → Type 0) (start now : Moment) (talk : Talk
       nothing (Some g) is = absurd is
 
   pub many-ends : talk.taken ≤ 2 ^ 62 → talk.standing.place ≡ Between → HasTooManyHeaders talk.standing.waiting → Talked Streams start now end.Bad
-  many-ends most at many = ended-bad most (subst (HasNoRequest IsBodyText) (sym (rest-waits at)) (many-none talk.standing.waiting many))
+  many-ends most at many = ended-bad most (subst (HasNoRequest IsBodyText) (sym (rest-waits at)) (many-none talk.standing.waiting many)) (subst IsUnreadable (sym (rest-waits at)) (inr (inl many)))
 
   pub long-ends : talk.taken ≤ 2 ^ 62 → talk.standing.place ≡ Between → IsHeadTooLong talk.standing.waiting → Talked Streams start now end.Bad
-  long-ends most at long = ended-bad most (subst (HasNoRequest IsBodyText) (sym (rest-waits at)) (HasNoHead-no_request IsBodyText talk.standing.waiting long.1))
+  long-ends most at long = ended-bad most (subst (HasNoRequest IsBodyText) (sym (rest-waits at)) (HasNoHead-no_request IsBodyText talk.standing.waiting long.1)) (subst IsUnreadable (sym (rest-waits at)) (inr (inr (inl long))))
 
   none-left : HoldsNoPart talk.standing.place talk.standing.waiting → HasNoRequest IsBodyText rest
   none-left none = rest-none talk.standing.place so_far.given so_far.reads.begun talk.standing.waiting so_far.reads.is_begun none

@@ -3,8 +3,13 @@ use Rattle.std.specs.Prelude.{◌≡◌, ◌≢◌, ◌≤◌, ◌^◌, ◌⊎�
 use Rattle.std.specs.List.{AllByRecursion, flat_map}
 use Rattle.hb_outside.specs.Streams.{Gives, Writes, WritesPart}
 use Rattle.httparse.specs.Grammar.{RequestHead}
+use Rattle.hb_http.specs.ChunkPlaces.{body_start, place_after}
+use Rattle.hb_http.specs.Framing.{IsChunked}
+use Rattle.hb_http.specs.Headers.{headers_of}
+use Rattle.hb_http.specs.Heads.{HasTooManyHeaders, IsHead, IsHeadTooLong, IsMalformed}
 use Rattle.hb_http.specs.Readings.{AreRequests, IsBodyText}
 use Rattle.hb_http.specs.Requests.{IsRequest, Request, RequestsOf, request_text}
+use Rattle.hb_http.specs.declared.chunk_places.ChunkPlace.TheVariants.{Bad as BadBody}
 use Rattle.hb_desk.specs.Chains.{Chain}
 use Rattle.hb_desk.specs.Clause.{View}
 use Rattle.hb_desk.specs.Points.{Point}
@@ -12,7 +17,7 @@ use Rattle.hb_desk.specs.declared.refusals.Refusal.{Refusal}
 use Rattle.hb_talk.specs.Turns.{Answers, ClosesBy, Turn, given_by, points_of, turns_text}
 use Rattle.hb_talk.specs.Wanting.{IsLast}
 use Rattle.hb_talk.specs.declared.ends.TalkEnd.{TalkEnd}
-use Rattle.hb_talk.specs.declared.ends.TalkEnd.TheVariants.{Closed, Cut, Long, WriteFault, Memory}
+use Rattle.hb_talk.specs.declared.ends.TalkEnd.TheVariants.{Closed, Cut, Bad, Long, WriteFault, Memory}
 
 -- what the desk and the devices tell at a moment: the desk's view, what the source has left and whether it has ended, and
 -- what the sink holds
@@ -49,10 +54,21 @@ Wrote end held now text = Writes held now text
 abbrev pub LastCloses : List Turn → Type 0
 LastCloses turns = (before : List Turn) × (last : Turn) × (turns ≡ before ++ last ∷ []) × (last.closes ≡ true)
 
+-- a body in chunks that nothing behind it makes whole: the bytes at its front lead to no place in a body
+abbrev pub IsBadBody : List ℕ → Type 0
+IsBadBody body = (front rest : List ℕ) × (body ≡ front ++ rest) × (place_after body_start front ≡ BadBody)
+
+-- the bytes begin with no request that is read: malformed, above the limits of a head, or with a malformed body in chunks
+abbrev pub IsUnreadable : List ℕ → Type 0
+IsUnreadable bytes =
+    IsMalformed bytes ⊎ HasTooManyHeaders bytes ⊎ IsHeadTooLong bytes
+    ⊎ ((h : RequestHead) × (body : List ℕ) × IsHead bytes h body × IsChunked (headers_of h) × IsBadBody body)
+
 -- why the talk ended
 abbrev pub HasCause : TalkEnd → Bool → List ℕ → List Turn → List ℕ → Type 0
 HasCause Closed ended taken turns rest = (rest ≡ []) × ((ended ≡ true) ⊎ LastCloses turns)
 HasCause Cut ended taken turns rest = (rest ≢ []) × (ended ≡ true)
+HasCause Bad ended taken turns rest = IsUnreadable rest
 HasCause Long ended taken turns rest = length taken ≡ 2 ^ 62
 HasCause end ended taken turns rest = Unit {0}
 
