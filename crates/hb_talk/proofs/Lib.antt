@@ -4,6 +4,7 @@ pub mod Lessening
 pub mod Requests
 pub mod Rests
 pub mod Served
+pub mod Sharing
 pub mod Streams
 pub mod Talking
 pub mod Turning

@@ -12,6 +12,8 @@ mod answers;
 mod coming;
 mod ends;
 mod serving;
+#[cfg(test)]
+mod shared_tests;
 mod talks;
 #[cfg(test)]
 mod tests;

@@ -9,50 +9,50 @@ use std::alloc::Global;
 use std::process::Abort;
 use std::test::Fail;
 
-type MemWorld = World<MemKeeper, MemStore>;
+pub(crate) type MemWorld = World<MemKeeper, MemStore>;
 
 const MANIFEST: &[u8] =
     b"{\"schemaVersion\":2,\"config\":{\"digest\":\"sha256:44136fa355b3678a1146ad16f7e8649e94fb4fc21fe77e8310c060f61caaff8a\",\"size\":2},\"layers\":[{\"digest\":\"sha256:ba7816bf8f01cfea414140de5dae2223b00361a396177a9cb410ff61f20015ad\",\"size\":3},{\"digest\":\"sha256:e3b0c44298fc1c149afbf4c8996fb92427ae41e4649b934ca495991b7852b855\",\"size\":0}],\"annotations\":{\"a\":\"b\"},\"unknown\":1}";
 
 // Pushes `{}`.
-const PUSH_CONFIG: &[u8] =
+pub(crate) const PUSH_CONFIG: &[u8] =
     b"POST /v2/library/a/blobs/uploads/?digest=sha256%3A44136fa355b3678a1146ad16f7e8649e94fb4fc21fe77e8310c060f61caaff8a HTTP/1.1\r\nHost: r\r\nContent-Length: 2\r\n\r\n{}";
 
-const PUSH_ABC: &[u8] =
+pub(crate) const PUSH_ABC: &[u8] =
     b"POST /v2/library/a/blobs/uploads/?digest=sha256%3Aba7816bf8f01cfea414140de5dae2223b00361a396177a9cb410ff61f20015ad HTTP/1.1\r\nHost: r\r\nContent-Length: 3\r\n\r\nabc";
 
-const PUSH_NOTHING: &[u8] =
+pub(crate) const PUSH_NOTHING: &[u8] =
     b"POST /v2/library/a/blobs/uploads/?digest=sha256%3Ae3b0c44298fc1c149afbf4c8996fb92427ae41e4649b934ca495991b7852b855 HTTP/1.1\r\nHost: r\r\nContent-Length: 0\r\n\r\n";
 
 // Puts a manifest that refers to all three.
-const PUT_MANIFEST: &[u8] =
+pub(crate) const PUT_MANIFEST: &[u8] =
     b"PUT /v2/library/a/manifests/v1 HTTP/1.1\r\nHost: r\r\nContent-Type: application/vnd.oci.image.manifest.v1+json\r\nContent-Length: 357\r\n\r\n{\"schemaVersion\":2,\"config\":{\"digest\":\"sha256:44136fa355b3678a1146ad16f7e8649e94fb4fc21fe77e8310c060f61caaff8a\",\"size\":2},\"layers\":[{\"digest\":\"sha256:ba7816bf8f01cfea414140de5dae2223b00361a396177a9cb410ff61f20015ad\",\"size\":3},{\"digest\":\"sha256:e3b0c44298fc1c149afbf4c8996fb92427ae41e4649b934ca495991b7852b855\",\"size\":0}],\"annotations\":{\"a\":\"b\"},\"unknown\":1}";
 
-const GET_TAG: &[u8] =
+pub(crate) const GET_TAG: &[u8] =
     b"GET /v2/library/a/manifests/v1 HTTP/1.1\r\nHost: r\r\nContent-Length: 0\r\n\r\n";
 
 const GET_DIGEST: &[u8] =
     b"GET /v2/library/a/manifests/sha256:9f0545606529702c3c00fe4dcc12aa9f6a01d0e1865e177c9f9f46da1121fbed HTTP/1.1\r\nHost: r\r\nContent-Length: 0\r\n\r\n";
 
-const GET_ABC: &[u8] =
+pub(crate) const GET_ABC: &[u8] =
     b"GET /v2/library/a/blobs/sha256:ba7816bf8f01cfea414140de5dae2223b00361a396177a9cb410ff61f20015ad HTTP/1.1\r\nHost: r\r\n\r\n";
 
-const CREATED_CONFIG: &[u8] =
+pub(crate) const CREATED_CONFIG: &[u8] =
     b"HTTP/1.1 201 Created\r\nContent-Length: 0\r\nDocker-Content-Digest: sha256:44136fa355b3678a1146ad16f7e8649e94fb4fc21fe77e8310c060f61caaff8a\r\nLocation: /v2/library/a/blobs/sha256:44136fa355b3678a1146ad16f7e8649e94fb4fc21fe77e8310c060f61caaff8a\r\n\r\n";
 
-const CREATED_ABC: &[u8] =
+pub(crate) const CREATED_ABC: &[u8] =
     b"HTTP/1.1 201 Created\r\nContent-Length: 0\r\nDocker-Content-Digest: sha256:ba7816bf8f01cfea414140de5dae2223b00361a396177a9cb410ff61f20015ad\r\nLocation: /v2/library/a/blobs/sha256:ba7816bf8f01cfea414140de5dae2223b00361a396177a9cb410ff61f20015ad\r\n\r\n";
 
-const CREATED_NOTHING: &[u8] =
+pub(crate) const CREATED_NOTHING: &[u8] =
     b"HTTP/1.1 201 Created\r\nContent-Length: 0\r\nDocker-Content-Digest: sha256:e3b0c44298fc1c149afbf4c8996fb92427ae41e4649b934ca495991b7852b855\r\nLocation: /v2/library/a/blobs/sha256:e3b0c44298fc1c149afbf4c8996fb92427ae41e4649b934ca495991b7852b855\r\n\r\n";
 
-const CREATED_MANIFEST: &[u8] =
+pub(crate) const CREATED_MANIFEST: &[u8] =
     b"HTTP/1.1 201 Created\r\nContent-Length: 0\r\nDocker-Content-Digest: sha256:9f0545606529702c3c00fe4dcc12aa9f6a01d0e1865e177c9f9f46da1121fbed\r\nLocation: /v2/library/a/manifests/sha256:9f0545606529702c3c00fe4dcc12aa9f6a01d0e1865e177c9f9f46da1121fbed\r\n\r\n";
 
-const GOT_MANIFEST: &[u8] =
+pub(crate) const GOT_MANIFEST: &[u8] =
     b"HTTP/1.1 200 OK\r\nContent-Length: 357\r\nContent-Type: application/vnd.oci.image.manifest.v1+json\r\nDocker-Content-Digest: sha256:9f0545606529702c3c00fe4dcc12aa9f6a01d0e1865e177c9f9f46da1121fbed\r\n\r\n{\"schemaVersion\":2,\"config\":{\"digest\":\"sha256:44136fa355b3678a1146ad16f7e8649e94fb4fc21fe77e8310c060f61caaff8a\",\"size\":2},\"layers\":[{\"digest\":\"sha256:ba7816bf8f01cfea414140de5dae2223b00361a396177a9cb410ff61f20015ad\",\"size\":3},{\"digest\":\"sha256:e3b0c44298fc1c149afbf4c8996fb92427ae41e4649b934ca495991b7852b855\",\"size\":0}],\"annotations\":{\"a\":\"b\"},\"unknown\":1}";
 
-const GOT_ABC: &[u8] =
+pub(crate) const GOT_ABC: &[u8] =
     b"HTTP/1.1 200 OK\r\nContent-Length: 3\r\nContent-Type: application/octet-stream\r\nDocker-Content-Digest: sha256:ba7816bf8f01cfea414140de5dae2223b00361a396177a9cb410ff61f20015ad\r\n\r\nabc";
 
 const MISSING_CONFIG: &[u8] =
@@ -89,7 +89,11 @@ const STORAGE: &[u8] =
     b"HTTP/1.1 500 Internal Server Error\r\nContent-Length: 63\r\nContent-Type: application/json\r\n\r\n{\"errors\":[{\"code\":\"STORAGE\",\"detail\":{},\"message\":\"storage\"}]}";
 
 // A world on new devices, of whose calls these fail. Its start makes 11 calls of the keeper.
-fn world(alloc: Global, keeper_fails: &[u64], store_fails: &[u64]) -> Result<MemWorld, Fail> {
+pub(crate) fn world(
+    alloc: Global,
+    keeper_fails: &[u64],
+    store_fails: &[u64],
+) -> Result<MemWorld, Fail> {
     empty_devices_are_at_rest();
     let keeper = MemKeeper::new(alloc, keeper_fails.to_vec(alloc)?);
     let store = MemStore::new(alloc, store_fails.to_vec(alloc)?);
@@ -99,7 +103,7 @@ fn world(alloc: Global, keeper_fails: &[u64], store_fails: &[u64]) -> Result<Mem
     }
 }
 
-fn joined(alloc: Global, pieces: &[&'static [u8]]) -> Result<Vec<u8>, Fail> {
+pub(crate) fn joined(alloc: Global, pieces: &[&'static [u8]]) -> Result<Vec<u8>, Fail> {
     let mut text = Vec::new(alloc);
     for piece in pieces {
         text.extend_from_slice(piece)?;
@@ -108,7 +112,7 @@ fn joined(alloc: Global, pieces: &[&'static [u8]]) -> Result<Vec<u8>, Fail> {
 }
 
 // Talks over a desk, to which the input comes in pieces of so many bytes: how it ends, and what is answered.
-fn answered<D: Desk>(
+pub(crate) fn answered<D: Desk>(
     alloc: Global,
     desk: &mut D,
     input: &[u8],
