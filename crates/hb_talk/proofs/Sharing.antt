@@ -4,11 +4,12 @@ use Rattle.std.proofs.lemmas.Bool.Decides.{nat_tests}
 use Rattle.std.specs.List.{list_any}
 use Rattle.hb_records.specs.declared.notes.Sealed.{Sealed}
 use Rattle.hb_desk.specs.Calls.{Asked, Outcome}
-use Rattle.hb_desk.specs.Clause.{moves_seal}
+use Rattle.hb_desk.specs.Clause.{Between, Causes, EventOf, View, moves_seal}
 use Rattle.hb_desk.specs.Notes.{is_sealed, sealed_at}
 use Rattle.hb_desk.specs.Noting.{seal_of}
 use Rattle.hb_desk.specs.declared.asks.Ask.{Ask}
 use Rattle.hb_desk.specs.declared.asks.Ask.TheVariants.{ShowProject, BeginUpload, EndUpload, Seal, SealManifest, Settle, PutArtifact, NotePull}
+use Rattle.hb_desk.proofs.Interleave.{one-between}
 
 pub none-sealed : (upload : ℕ) (own : List Sealed) → list_any (is_sealed upload) own ≡ false → sealed_at upload own ≡ None
 none-sealed upload [] none = refl
@@ -30,7 +31,7 @@ others-sealed upload own none u x is = go (nat_eq u upload) refl
     go false tied = refl
 
 -- ---- the ask that seals
-pub unmoved-by : (ask : Ask) (outcome : Outcome) (x : Sealed) (u : ℕ) → seal_of ask ≡ Some x → nat_eq u x.upload ≡ false → moves_seal u (Asked ask) outcome ≡ false
+unmoved-by : (ask : Ask) (outcome : Outcome) (x : Sealed) (u : ℕ) → seal_of ask ≡ Some x → nat_eq u x.upload ≡ false → moves_seal u (Asked ask) outcome ≡ false
 unmoved-by (ShowProject name) outcome x u is apart = refl
 unmoved-by (BeginUpload name) outcome x u is apart = refl
 unmoved-by (EndUpload job upload) outcome x u is apart = refl
@@ -41,3 +42,6 @@ unmoved-by (SealManifest upload put) (Err refusal) x u is apart = refl
 unmoved-by (Settle name upload d) outcome x u is apart = refl
 unmoved-by (PutArtifact upload put) outcome x u is apart = refl
 unmoved-by (NotePull name d) outcome x u is apart = refl
+
+pub sealing-between : (own : List Sealed) (old new : View) (now : ℕ) (ask : Ask) (outcome : Outcome) (x : Sealed) → seal_of ask ≡ Some x → sealed_at x.upload own ≡ None → old.spent ≡ false → new.spent ≡ false → EventOf old new (Asked ask) outcome → Causes old new now (Asked ask) outcome → Between own old new
+sealing-between own old new now ask outcome x is none before seat event causes = one-between own old new now (Asked ask) outcome (λ u y mine. unmoved-by ask outcome x u is (others-sealed x.upload own none u y mine)) before seat event causes

@@ -1,5 +1,5 @@
 //! A connection over a world that another caller shares, who acts between the connection's events.
-ghost use Rattle.std.specs.Prelude.{◌≡◌, ℕ, List, true, false, length, None, Some, IfOk, IfSome, IsSomeAnd};
+ghost use Rattle.std.specs.Prelude.{◌≡◌, ℕ, List, true, false, length, None, Some, IfOk, IsSomeAnd};
 ghost use Rattle.std.specs.List.{list_any};
 ghost use Rattle.hb_text.specs.Digests.{digest_of};
 ghost use Rattle.hb_records.specs.declared.notes.Sealed.{Sealed as SealedUpload};
@@ -72,8 +72,8 @@ fn staged<D: Desk>(
     Ok(staged.stage)
 }
 
-// Seals an upload and places its stage.
-fn place<D: Desk>(
+// Seals an upload by this ask, and places its stage.
+fn seal_and_place<D: Desk>(
     desk: &mut D,
     ask: &Ask,
     upload: u64,
@@ -220,7 +220,7 @@ impl Pusher {
         let Ok(stage) = staged(desk, &self.name, self.upload, bytes, now) else {
             return;
         };
-        if place(desk, &seal, self.upload, stage, &digest, now).is_ok() {
+        if seal_and_place(desk, &seal, self.upload, stage, &digest, now).is_ok() {
             self.next = Next::Settle;
         }
     }
