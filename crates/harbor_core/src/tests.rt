@@ -32,6 +32,9 @@ const UNKNOWN: &[u8] =
 const UNSUPPORTED: &[u8] =
     b"HTTP/1.1 404 Not Found\r\nConnection: close\r\nContent-Length: 71\r\nContent-Type: application/json\r\n\r\n{\"errors\":[{\"code\":\"UNSUPPORTED\",\"detail\":{},\"message\":\"unsupported\"}]}";
 
+const BASE: &[u8] =
+    b"HTTP/1.1 200 OK\r\nContent-Length: 2\r\nContent-Type: application/json\r\n\r\n{}";
+
 const STORAGE: &[u8] =
     b"HTTP/1.1 500 Internal Server Error\r\nContent-Length: 63\r\nContent-Type: application/json\r\n\r\n{\"errors\":[{\"code\":\"STORAGE\",\"detail\":{},\"message\":\"storage\"}]}";
 
@@ -72,7 +75,10 @@ const LONG_HEAD: &[u8] =
     b"POST /v2/library/a/blobs/uploads/?digest=sha256:ba7816bf8f01cfea414140de5dae2223b00361a396177a9cb410ff61f20015ad HTTP/1.1\r\nContent-Length: ";
 
 const FOUND_ZEROS: &[u8] =
-    b"HTTP/1.1 400 Bad Request\r\nContent-Length: 158\r\nContent-Type: application/json\r\n\r\n{\"errors\":[{\"code\":\"DIGEST_INVALID\",\"detail\":{\"found\":\"sha256:de2f256064a0af797747c2b97505dc0b9f3df0de4f489eac731c23ae9ca9cc31\"},\"message\":\"digest invalid\"}]}";
+    b"HTTP/1.1 400 Bad Request\r\nContent-Length: 158\r\nContent-Type: application/json\r\n\r\n{\"errors\":[{\"code\":\"DIGEST_INVALID\",\"detail\":{\"found\":\"sha256:bb9f8df61474d25e71fa00722318cd387396ca1736605e1248821cc0de3d3af8\"},\"message\":\"digest invalid\"}]}";
+
+const TOO_LONG: &[u8] =
+    b"HTTP/1.1 413 Payload Too Large\r\nConnection: close\r\nContent-Length: 73\r\nContent-Type: application/json\r\n\r\n{\"errors\":[{\"code\":\"SIZE_INVALID\",\"detail\":{},\"message\":\"size invalid\"}]}";
 
 // What a talk answers and how it ends.
 fn talk(
@@ -194,11 +200,8 @@ fn each_request_has_its_answer(rt: HostRuntime) -> Result<(), Fail> {
             b"POST /v2/library/a/blobs/uploads/?digest=sha256:e3b0c44298fc1c149afbf4c8996fb92427ae41e4649b934ca495991b7852b855 HTTP/1.1\r\nContent-Length: 3\r\n\r\nabc",
             b"HTTP/1.1 400 Bad Request\r\nContent-Length: 158\r\nContent-Type: application/json\r\n\r\n{\"errors\":[{\"code\":\"DIGEST_INVALID\",\"detail\":{\"found\":\"sha256:ba7816bf8f01cfea414140de5dae2223b00361a396177a9cb410ff61f20015ad\"},\"message\":\"digest invalid\"}]}",
         ),
-        // what isn't served closes, and what stands behind it is not read
-        (
-            b"GET /v2/ HTTP/1.1\r\n\r\nGET /v2/ HTTP/1.1\r\n\r\n",
-            UNSUPPORTED,
-        ),
+        // whether this is a registry
+        (b"GET /v2/ HTTP/1.1\r\n\r\n", BASE),
         (
             b"GET /v2/other/a/blobs/sha256:ba7816bf8f01cfea414140de5dae2223b00361a396177a9cb410ff61f20015ad HTTP/1.1\r\n\r\n",
             NO_NAME,
@@ -216,17 +219,17 @@ fn each_request_has_its_answer(rt: HostRuntime) -> Result<(), Fail> {
     Ok(())
 }
 
-// A body of 65,536 bytes is served, and a longer one isn't.
+// A body of 4 MiB is served, and a longer one isn't.
 #[test]
-fn a_body_above_the_limit_is_not_served(rt: HostRuntime) -> Result<(), Fail> {
+fn a_body_above_the_limit_is_refused(rt: HostRuntime) -> Result<(), Fail> {
     let alloc = rt.alloc();
-    for (length, answer) in [("65536", FOUND_ZEROS), ("65537", UNSUPPORTED)] {
+    for (length, answer) in [("4194304", FOUND_ZEROS), ("4194305", TOO_LONG)] {
         let mut input = joined(alloc, &[LONG_HEAD])?;
         input.extend_from_slice(length.as_bytes())?;
         input.extend_from_slice(b"\r\n\r\n")?;
-        let body = vec![in alloc; 0u8; 65_536]?;
+        let body = vec![in alloc; 0u8; 4_194_304]?;
         input.extend_from_slice(&body)?;
-        if length == "65537" {
+        if length == "4194305" {
             input.extend_from_slice(b"0")?;
         }
         let (status, said) = plain(alloc, &input, 65_536)?;

@@ -11,6 +11,8 @@ use Rattle.hb_desk.specs.State.{State}
 use Rattle.hb_desk.specs.declared.answers.Answer.{Answer}
 use Rattle.hb_desk.specs.declared.refusals.Refusal.{Refusal}
 use Rattle.hb_desk.specs.declared.refusals.Refusal.TheVariants as refusal
+use Rattle.hb_routes.specs.declared.faults.RouteFault.{RouteFault}
+use Rattle.hb_routes.specs.declared.faults.RouteFault.TheVariants as route
 use Rattle.hb_upload.specs.Deciding.{decided}
 use Rattle.hb_upload.specs.Phases.{is_ended, place_at}
 use Rattle.hb_upload.specs.Places.{Calls, Parcel, Stopped, place_of}
@@ -29,8 +31,10 @@ use Rattle.hb_manifest.specs.declared.manifests.Manifest.{Manifest}
 use Rattle.hb_manifest.specs.declared.manifests.ManifestFault.{ManifestFault}
 use Rattle.hb_manifest.specs.declared.manifests.ManifestFault.TheVariants as manifest
 use Rattle.hb_talk.specs.Driving.{Driven, IsPut, IsRefused, Worked, parcel_of}
-use Rattle.hb_talk.specs.Tasks.{Task, got_answer, location_of, manifest_error, manifest_task, names_other, push_answer, put_of, task_of, wrong_digest}
-use Rattle.hb_talk.specs.Tasks.Task.{Pushes, Gets, Refuses}
+use Rattle.hb_talk.specs.Tasks.{Task, got_answer, location_of, manifest_error, manifest_task, names_other, push_answer, put_of, route_error, task_of, unsupported, wrong_digest}
+use Rattle.hb_talk.specs.Tasks.Task.{Pushes, Gets, Refuses, Tells}
+use Rattle.hb_talk.specs.declared.wanted.Wanted.{Wanted}
+use Rattle.hb_talk.specs.declared.wanted.Wanted.TheVariants as wanted
 use Rattle.hb_talk.specs.declared.wanted.Wanted.TheVariants.{PutManifest}
 
 -- ---- each status that is answered has a phrase
@@ -101,6 +105,19 @@ refused-worked Streams error v None result is = tt
 refused-worked Streams error v (Some s) (Err e) is = record { points = []; chain = refl; done = tt }
 refused-worked Streams error v (Some s) (Ok a) is = record { points = []; chain = refl; done = ([], record { makes = refl; answers = is; reads = tt; streams = tt }) }
 
+pub told-worked : {E : Type 0} (Streams : Option Refusal → Type 0) (answer : Answer) (v : View) (state : Option State) (result : Result Answer E) → IfOk result (λ a. a ≡ answer) → IfSome state (λ s. Worked Streams (Tells answer) v v result)
+told-worked Streams answer v None result is = tt
+told-worked Streams answer v (Some s) (Err e) is = record { points = []; chain = refl; done = tt }
+told-worked Streams answer v (Some s) (Ok a) is = record { points = []; chain = refl; done = ([], record { makes = refl; answers = is; reads = tt; streams = tt }) }
+
+pub route-phrase : (fault : RouteFault) → HasPhrase (route_error fault).status
+route-phrase route.Unknown = refl
+route-phrase route.MethodUnknown = refl
+route-phrase route.NameInvalid = refl
+route-phrase route.TagInvalid = refl
+route-phrase route.DigestInvalid = refl
+route-phrase route.Memory = refl
+
 -- ---- a manifest that was read
 module _ (name : List ℕ) (r : Reference) (media : Option (List ℕ)) (body : List ℕ) (found : Digest) (found_is : found ≡ digest_of body) where
   by_reference : Bool → Task
@@ -138,6 +155,10 @@ module _ (name : List ℕ) (r : Reference) (media : Option (List ℕ)) (body : L
 -- the task that is pushed is the manifest's
 pub as-task : {E : Type 0} (Streams : Option Refusal → Type 0) (task task' : Task) (old new : View) (state : Option State) (result : Result Answer E) → task ≡ task' → IfSome state (λ s. Worked Streams task' old new result) → IfSome state (λ s. Worked Streams task old new result)
 as-task Streams task task' old new state result same worked = subst (λ task. IfSome state (λ s. Worked Streams task old new result)) (sym same) worked
+
+pub unbuilt-task : (w : Wanted) (media : Option (List ℕ)) (body : List ℕ) → (w ≡ wanted.Unbuilt) ⊎ (w ≡ wanted.InChunks) → task_of w media body ≡ Refuses unsupported
+unbuilt-task w media body (inl is) = ap (λ w. task_of w media body) is
+unbuilt-task w media body (inr is) = ap (λ w. task_of w media body) is
 
 pub refused-task : (E : Type 0) (Streams : Option Refusal → Type 0) (task : Task) (a : Answer) (v : View) (state : Option State) → IsRefused task a → IfSome state (λ s. Worked {E = E} Streams task v v (Ok a))
 refused-task E Streams task a v state is = as-task Streams task (Refuses is.error) v v state (Ok a) is.task_is (refused-worked Streams is.error v state (Ok a) is.answer_is)

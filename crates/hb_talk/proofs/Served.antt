@@ -1,38 +1,50 @@
 -- What was answered to a request that has come.
-use Rattle.std.proofs.Common.{◌≡◌, ◌<◌, ◌+◌, ℕ, Bool, true, List, [], ◌++◌, Option, Some, None, Result, Ok, Err, IfOk, IfSome, MatchBool, refl, sym, ap, subst, ◌∙◌, inl, inr, arith}
+use Rattle.std.proofs.Common.{◌≡◌, ◌<◌, ◌+◌, ℕ, Bool, true, List, [], ◌++◌, Option, Some, None, Result, Ok, Err, IfSome, MatchBool, refl, sym, ap, subst, ◌∙◌, inl, inr, arith}
 use Rattle.hb_http.specs.Readings.{Given}
 use Rattle.hb_http.specs.Standing.{Standing}
 use Rattle.hb_desk.specs.Chains.{Chain}
 use Rattle.hb_desk.specs.Clause.{View}
+use Rattle.hb_desk.specs.Points.{Point}
 use Rattle.hb_desk.specs.State.{State}
 use Rattle.hb_desk.specs.declared.answers.Answer.{Answer}
 use Rattle.hb_desk.specs.declared.refusals.Refusal.{Refusal}
-use Rattle.hb_ops.specs.Errors.{error_answer}
 use Rattle.hb_talk.specs.Driving.{Worked}
 use Rattle.hb_talk.specs.Progress.{Came, NextTurn, Reads, Served}
-use Rattle.hb_talk.specs.Tasks.{task_of, unsupported}
+use Rattle.hb_talk.specs.Tasks.{task_of}
 use Rattle.hb_talk.specs.Texts.{answer_text}
 use Rattle.hb_talk.specs.Turns.{AnswersTo, IsDone, Turn}
-use Rattle.hb_talk.specs.Wanting.{IsLast, IsServed, Serves, media_of}
+use Rattle.hb_talk.specs.Wanting.{IsLast, Serves, keeps_body, media_of}
 use Rattle.hb_talk.specs.declared.coming.Coming.{Coming}
 use Rattle.hb_talk.specs.declared.ends.Turned.TheVariants.{More}
 use Rattle.hb_talk.specs.declared.wanted.Wanted.{Wanted}
+use Rattle.hb_talk.specs.declared.wanted.Wanted.TheVariants as wanted
 
--- the task of a request that is served was done
-pub served-task : {E : Type 0} (Streams : Option Refusal → Type 0) (g : Given) (w : Wanted) (media : Option (List ℕ)) (body : List ℕ) (old new : View) (state : Option State) (result : Result Answer E) → Serves g.head w → media ≡ media_of g.head → body ≡ g.content → IfSome state (λ s. Worked Streams (task_of w media body) old new result) → IfSome state (λ s. Served Streams old new g result)
+-- what is done doesn't look at a body that isn't kept
+same-task : (w : Wanted) (media : Option (List ℕ)) (body content : List ℕ) → (keeps_body w ≡ true → body ≡ content) → task_of w media body ≡ task_of w media content
+same-task wanted.Base media body content same = refl
+same-task wanted.Unbuilt media body content same = refl
+same-task (wanted.Unrouted fault) media body content same = refl
+same-task wanted.TooLong media body content same = refl
+same-task wanted.InChunks media body content same = refl
+same-task (wanted.PushBlob name d) media body content same = ap (task_of (wanted.PushBlob name d) media) (same refl)
+same-task (wanted.GetBlob name d) media body content same = refl
+same-task (wanted.PutManifest name r) media body content same = ap (task_of (wanted.PutManifest name r) media) (same refl)
+same-task (wanted.GetManifest name r) media body content same = refl
+
+-- the task of what a request wants was done
+pub served-task : {E : Type 0} (Streams : Option Refusal → Type 0) (g : Given) (w : Wanted) (media : Option (List ℕ)) (body : List ℕ) (old new : View) (state : Option State) (result : Result Answer E) → Serves g.head w → media ≡ media_of g.head → (keeps_body w ≡ true → body ≡ g.content) → IfSome state (λ s. Worked Streams (task_of w media body) old new result) → IfSome state (λ s. Served Streams old new g result)
 served-task Streams g w media body old new None result serves media_is body_is worked = tt
 served-task Streams g w media body old new (Some s) (Err e) serves media_is body_is worked = record { points = worked.points; chain = worked.chain; answers = tt }
 served-task Streams g w media body old new (Some s) (Ok a) serves media_is body_is worked = record {
   points = worked.points;
   chain = worked.chain;
-  answers = (worked.done.0, inl (w, serves, subst (λ media. IsDone Streams old.told_bytes (task_of w media g.content) worked.points worked.done.0 a) media_is (subst (λ body. IsDone Streams old.told_bytes (task_of w media body) worked.points worked.done.0 a) body_is worked.done.1)));
+  answers = (worked.done.0, (w, serves, subst (λ task. IsDone Streams old.told_bytes task worked.points worked.done.0 a) (same-task w media body g.content body_is ∙ ap (λ media. task_of w media g.content) media_is) worked.done.1));
 }
 
--- another one is refused at once
-pub unserved-answer : {E : Type 0} (Streams : Option Refusal → Type 0) (g : Given) (v : View) (state : Option State) (result : Result Answer E) → ¬ (IsServed g.head) → IfOk result (λ a. a ≡ error_answer unsupported) → IfSome state (λ s. Served Streams v v g result)
-unserved-answer Streams g v None result not_served is = tt
-unserved-answer Streams g v (Some s) (Err e) not_served is = record { points = []; chain = refl; answers = tt }
-unserved-answer Streams g v (Some s) (Ok a) not_served is = record { points = []; chain = refl; answers = ([], inr (not_served, refl, is)) }
+-- the events of a request that is left without its answer
+pub served-chain : {E : Type 0} (Streams : Option Refusal → Type 0) (old new : View) (g : Given) (state : Option State) (result : Result Answer E) → IfSome state (λ s. Served Streams old new g result) → IfSome state (λ s. (points : List Point) × Chain old points new)
+served-chain Streams old new g None result served = tt
+served-chain Streams old new g (Some s) result served = (served.points, served.chain)
 
 -- the turn of a request that was answered
 pub record TurnOf (Streams : Option Refusal → Type 0) (old new : View) (g : Given) (closes : Bool) (answer : Answer) : Type 0 where

@@ -1,5 +1,5 @@
 -- What each part of a request makes of a talk.
-use Rattle.std.proofs.Common.{◌≡◌, ◌≤◌, ◌^◌, ℕ, Bool, List, [], ◌∷◌, ◌++◌, Option, Some, None, Result, Ok, Err, IfSome, refl, sym, ap, subst, ◌∙◌}
+use Rattle.std.proofs.Common.{◌≡◌, ◌≤◌, ◌^◌, ℕ, Bool, List, [], ◌∷◌, true, ◌++◌, Option, Some, None, Result, Ok, Err, refl, sym, ap, subst, ◌∙◌}
 use Rattle.hb_http.specs.Parts.{EndsBody, Gives, GivesBody, HoldsNoPart, read_through}
 use Rattle.hb_http.specs.Readings.{Given, HasRead, ReadsOn}
 use Rattle.hb_http.specs.Standing.{Standing}
@@ -16,26 +16,18 @@ use Rattle.hb_talk.specs.Comings.{ComesOf}
 use Rattle.hb_talk.specs.Progress.{Answered, Begins, Comes, Gathers, GoesOn, Grows, Progress, Reads, TalkParts, end_of}
 use Rattle.hb_talk.specs.Talks.{Moment, Talked}
 use Rattle.hb_talk.specs.Turns.{given_by}
+use Rattle.hb_talk.specs.Wanting.{keeps_body}
 use Rattle.hb_talk.specs.declared.coming.Coming.{Coming}
 use Rattle.hb_talk.specs.declared.ends.TalkEnd.TheVariants as end
 use Rattle.hb_talk.specs.declared.ends.Turned.{Turned}
 use Rattle.hb_talk.specs.declared.ends.Turned.TheVariants.{More, Ended}
-use Rattle.hb_talk.specs.declared.wanted.Wanted.{Wanted}
 use Rattle.hb_talk.proofs.Talking.{answered-last, answered-on, answered-part, bad-ends, cut-ends, input-ends, long-ends, many-ends, memory-ends, memory-here, parted, read-ends, read-on}
 
-some-of : {A P : Type 0} (o : Option A) → P → IfSome o (λ x. P)
-some-of None p = tt
-some-of (Some x) p = p
-
 -- a body that grew by a piece is that of what was given of it
-grown : (o : Option Wanted) (body body' content piece : List ℕ) → IfSome o (λ w. body' ≡ body ++ piece) → IfSome o (λ w. body ≡ content) → IfSome o (λ w. body' ≡ content ++ piece)
-grown None body body' content piece grows is = tt
-grown (Some w) body body' content piece grows is = grows ∙ ap (λ b. b ++ piece) is
-
 comes-grown : (c c' : Coming) (g : Given) (piece : List ℕ) → Grows c c' piece → Comes (Some c) (Some g) → Comes (Some c') (Some (record { head = g.head; content = g.content ++ piece }))
 comes-grown c c' g piece grows comes = (
   subst (λ wanted. ComesOf wanted c'.media c'.last g.head) (sym grows.wanted) (subst (λ media. ComesOf c.wanted media c'.last g.head) (sym grows.media) (subst (λ last. ComesOf c.wanted c.media last g.head) (sym grows.last) comes.0)),
-  subst (λ wanted. IfSome wanted (λ w. c'.body.items ≡ g.content ++ piece)) (sym grows.wanted) (grown c.wanted c.body.items c'.body.items g.content piece grows.body comes.1),
+  λ kept. let was = subst (λ w. keeps_body w ≡ true) grows.wanted kept in grows.body was ∙ ap (λ b. b ++ piece) (comes.1 was),
 )
 
 none-comes : {A : Type 0} (coming : Option Coming) (given : Option Given) (g : Given) → coming ≡ None → given ≡ Some g → Comes coming given → A
@@ -80,7 +72,7 @@ module _ (Streams : Option Refusal → Type 0) (start now : Moment) (talk : Talk
       let g : Given = record { head = follows.2; content = [] } in
       subst (Progress Streams start now) (sym begins.1) (parted Streams start now talk so_far reads.gone s' (Some begins.0) (Some g) reads.text
       (subst (λ done. HasRead done (Some g) (so_far.gone ++ reads.gone) s'.place) follows.1 (subst (λ given. HasRead reads.done' given (so_far.gone ++ reads.gone) s'.place) follows.4 reads.reads))
-      (begins.3 follows.2 follows.3, some-of begins.0.wanted begins.2) (gives-closed (Ok (HeadPart told)) talk.standing s' gives))
+      (begins.3 follows.2 follows.3, λ kept. begins.2) (gives-closed (Ok (HeadPart told)) talk.standing s' gives))
   head-turn told s' new (Ended end.Memory) gives reads begins = memory-here Streams start now talk so_far most
   head-turn told s' new (Ended end.Closed) gives reads begins = absurd begins
   head-turn told s' new (Ended end.Cut) gives reads begins = absurd begins

@@ -20,6 +20,7 @@ use Rattle.hb_talk.specs.Comings.{ComesOf}
 use Rattle.hb_talk.specs.Talks.{AtDesk, Moment, Talked}
 use Rattle.hb_talk.specs.Texts.{answer_text}
 use Rattle.hb_talk.specs.Turns.{Answers, AnswersTo, ClosesBy, Turn, given_by, turns_text}
+use Rattle.hb_talk.specs.Wanting.{keeps_body}
 use Rattle.hb_talk.specs.declared.coming.Coming.{Coming}
 use Rattle.hb_talk.specs.declared.ends.TalkEnd.{TalkEnd}
 use Rattle.hb_talk.specs.declared.ends.TalkEnd.TheVariants.{Closed, Cut, Bad, Long, ReadFault, WriteFault, Memory}
@@ -37,7 +38,7 @@ abbrev pub Comes : Option Coming → Option Given → Type 0
 Comes None None = Unit {0}
 Comes None (Some g) = ⊥
 Comes (Some c) None = ⊥
-Comes (Some c) (Some g) = ComesOf c.wanted c.media c.last g.head × IfSome c.wanted (λ w. c.body.items ≡ g.content)
+Comes (Some c) (Some g) = ComesOf c.wanted c.media c.last g.head × (keeps_body c.wanted ≡ true → c.body.items ≡ g.content)
 
 -- What a talk has done so far: these turns, none of which closed, and of the request that comes this was given.
 pub record Progress (Streams : Option Refusal → Type 0) (start now : Moment) (talk : TalkParts) : Type 0 where
@@ -66,12 +67,12 @@ Begins old head new More = (c : Coming) × (new ≡ record { standing = old.stan
 Begins old head new (Ended Memory) = Unit {0}
 Begins old head new (Ended end) = ⊥
 
--- the body grows by the piece, where the request is served
+-- the body grows by the piece, where it is gathered
 pub record Grows (c c' : Coming) (piece : List ℕ) : Type 0 where
   pub wanted : c'.wanted ≡ c.wanted
   pub media : c'.media ≡ c.media
   pub last : c'.last ≡ c.last
-  pub body : IfSome c.wanted (λ w. c'.body.items ≡ c.body.items ++ piece)
+  pub body : keeps_body c.wanted ≡ true → c'.body.items ≡ c.body.items ++ piece
 
 -- a piece comes behind a head alone
 abbrev pub Gathers : TalkParts → TalkParts → Turned → Type 0

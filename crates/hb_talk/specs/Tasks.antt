@@ -11,6 +11,8 @@ use Rattle.hb_manifest.specs.Forms.{manifest_form}
 use Rattle.hb_manifest.specs.declared.manifests.Manifest.{Manifest}
 use Rattle.hb_manifest.specs.declared.manifests.ManifestFault.{ManifestFault}
 use Rattle.hb_manifest.specs.declared.manifests.ManifestFault.TheVariants as manifest
+use Rattle.hb_routes.specs.declared.faults.RouteFault.{RouteFault}
+use Rattle.hb_routes.specs.declared.faults.RouteFault.TheVariants as route
 use Rattle.hb_desk.specs.Points.{Point}
 use Rattle.hb_desk.specs.declared.answers.Answer.{Answer}
 use Rattle.hb_upload.specs.Deciding.{decided}
@@ -25,13 +27,14 @@ use Rattle.hb_ops.specs.declared.gets.Phase.TheVariants.{Ended}
 use Rattle.hb_ops.specs.declared.gets.Sought.{Sought}
 use Rattle.hb_ops.specs.declared.gets.Sought.TheVariants.{Blob, Manifest as AManifest}
 use Rattle.hb_talk.specs.declared.wanted.Wanted.{Wanted}
-use Rattle.hb_talk.specs.declared.wanted.Wanted.TheVariants.{PushBlob, GetBlob, PutManifest, GetManifest}
+use Rattle.hb_talk.specs.declared.wanted.Wanted.TheVariants.{Base, PushBlob, GetBlob, PutManifest, GetManifest, Unbuilt, Unrouted, TooLong, InChunks}
 
--- an operation over the desk, or an error at once
+-- an operation over the desk, or an answer at once
 pub data Task : Type 0 where
   Pushes : (parcel : Parcel) → Task
   Gets : (sought : Sought) → Task
   Refuses : (error : ErrorForm) → Task
+  Tells : (answer : Answer) → Task
 
 -- ---- errors that no event decides
 abbrev pub wrong_digest : Digest → ErrorForm
@@ -44,6 +47,21 @@ manifest_error fault = plain 400 (codes "MANIFEST_INVALID")
 
 abbrev pub unsupported : ErrorForm
 unsupported = plain 404 (codes "UNSUPPORTED")
+
+abbrev pub too_long : ErrorForm
+too_long = plain 413 (codes "SIZE_INVALID")
+
+-- why a request has no route
+abbrev pub route_error : RouteFault → ErrorForm
+route_error route.MethodUnknown = plain 405 (codes "UNSUPPORTED")
+route_error route.NameInvalid = plain 400 (codes "NAME_INVALID")
+route_error route.TagInvalid = plain 400 (codes "MANIFEST_INVALID")
+route_error route.DigestInvalid = plain 400 (codes "DIGEST_INVALID")
+route_error fault = unsupported
+
+-- this is a registry (OCI Distribution Specification 1.1, "Determining Support")
+abbrev pub base : Answer
+base = record { status = 200; code = None; detail = []; length = None; media = Some (codes "application/json"); digest = None; link = None; location = None; range = None; retry = None; body = Some (codes "{}") }
 
 -- ---- what is done
 abbrev pub tag_of : Reference → Option (List ℕ)
@@ -64,6 +82,11 @@ names_other (ByDigest d) found = not (same_digest found d)
 
 -- by what is wanted, the Content-Type and the body
 abbrev pub task_of : Wanted → Option (List ℕ) → List ℕ → Task
+task_of Base media body = Tells base
+task_of Unbuilt media body = Refuses unsupported
+task_of (Unrouted fault) media body = Refuses (route_error fault)
+task_of TooLong media body = Refuses too_long
+task_of InChunks media body = Refuses unsupported
 task_of (PushBlob name d) media body = Pushes (record { name = name; digest = d; bytes = body; put = None })
 task_of (GetBlob name d) media body = Gets (Blob name d)
 task_of (GetManifest name r) media body = Gets (AManifest name r)
@@ -75,6 +98,7 @@ abbrev pub Makes : Task → List Point → Type 0
 Makes (Pushes b) points = Calls b points × ((stop : Stop) × (place_of b points ≡ Stopped stop))
 Makes (Gets sought) points = (x : Got) × LeadTo sought (Ended x) points
 Makes (Refuses error) points = points ≡ []
+Makes (Tells answer) points = points ≡ []
 
 -- ---- successes
 -- under which path the content stands (OCI Distribution Specification 1.1, "Endpoints")
@@ -109,6 +133,7 @@ abbrev pub answer_of : Task → List Point → List ℕ → Answer
 answer_of (Pushes b) points read = push_answer b (decided b points)
 answer_of (Gets sought) points read = got_answer (got_by read points)
 answer_of (Refuses error) points read = error_answer error
+answer_of (Tells answer) points read = answer
 
 -- what was read for it has the digest that was opened, where bytes are told
 abbrev pub ReadsTrue : Bool → Task → List Point → List ℕ → Type 0

@@ -1,16 +1,17 @@
-//! What is answered to a request that was served, and the errors that no event decides.
+//! What is answered to a request, and the errors that no event decides.
 ghost use Rattle.std.specs.Prelude.{◌≡◌, ◌≢◌, ◌++◌, ◌∷◌, [], IfOk, codes};
 ghost use Rattle.hb_text.specs.Digests.{digest_of, digest_text};
 ghost use Rattle.hb_records.specs.declared.puts.PutAsk.{PutAsk as Put};
 ghost use Rattle.std.specs.declared.option.Option.{Option};
 ghost use Rattle.hb_ops.specs.Errors.{digest_item, error_answer, number_item};
-ghost use Rattle.hb_talk.specs.Tasks.{content, created, got_answer, location_of, manifest_error, unsupported, wrong_digest};
+ghost use Rattle.hb_talk.specs.Tasks.{base, content, created, got_answer, location_of, manifest_error, route_error, too_long, unsupported, wrong_digest};
 ghost use Rattle.hb_upload.specs.Places.{Parcel};
 
 use hb_desk::{Answer, DetailItem, DetailList, DetailValue};
 use hb_manifest::ManifestFault;
 use hb_ops::{Got, error, refused};
 use hb_records::Listed;
+use hb_routes::RouteFault;
 use hb_text::{Digest, Memory, Name, Text};
 use std::alloc::Global;
 
@@ -37,6 +38,49 @@ pub(crate) fn unsupported(alloc: Global) -> Result<Answer, Memory>
     ensures { IfOk result (λ a. a ≡ error_answer unsupported) }
 {
     error(alloc, 404, b"UNSUPPORTED", Listed::new(alloc), None)
+}
+
+/// 413 SIZE_INVALID: the body is longer than is gathered.
+pub(crate) fn too_long(alloc: Global) -> Result<Answer, Memory>
+    ensures { IfOk result (λ a. a ≡ error_answer too_long) }
+{
+    error(alloc, 413, b"SIZE_INVALID", Listed::new(alloc), None)
+}
+
+/// Why a request has no route: 404 UNSUPPORTED for an unknown path, 405 UNSUPPORTED for another method, and 400 for what is
+/// outside its grammar: NAME_INVALID, MANIFEST_INVALID of a tag, or DIGEST_INVALID.
+pub(crate) fn no_route(alloc: Global, fault: RouteFault) -> Result<Answer, Memory>
+    ensures { IfOk result (λ a. a ≡ error_answer (route_error fault)) }
+{
+    let (status, code): (u16, &[u8]) = match fault {
+        RouteFault::MethodUnknown => (405, b"UNSUPPORTED"),
+        RouteFault::NameInvalid => (400, b"NAME_INVALID"),
+        RouteFault::TagInvalid => (400, b"MANIFEST_INVALID"),
+        RouteFault::DigestInvalid => (400, b"DIGEST_INVALID"),
+        RouteFault::Unknown | RouteFault::Memory => (404, b"UNSUPPORTED"),
+    };
+    error(alloc, status, code, Listed::new(alloc), None)
+}
+
+/// 200: this is a registry (OCI Distribution Specification 1.1, "Determining Support").
+pub(crate) fn base(alloc: Global) -> Result<Answer, Memory>
+    ensures { IfOk result (λ a. a ≡ base) }
+{
+    let media = Text::new(alloc, b"application/json")?;
+    let body = Text::new(alloc, b"{}")?;
+    Ok(Answer {
+        status: 200,
+        code: None,
+        detail: Listed::new(alloc),
+        length: None,
+        media: Some(media),
+        digest: None,
+        link: None,
+        location: None,
+        range: None,
+        retry: None,
+        body: Some(body),
+    })
 }
 
 /// 400 MANIFEST_INVALID: the body isn't a manifest. One that is too long is 413 SIZE_INVALID. Where memory was wanting for

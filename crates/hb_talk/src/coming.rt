@@ -1,10 +1,11 @@
 //! A request that comes: its head, and its body so far.
-ghost use Rattle.std.specs.Prelude.{◌≡◌, ◌++◌, [], List, ℕ, IfOk, IfSome, OnOk, is_some};
+ghost use Rattle.std.specs.Prelude.{◌≡◌, ◌++◌, [], true, IfOk, OnOk};
 ghost use Rattle.httparse.specs.Grammar.{RequestHead};
 ghost use Rattle.hb_http.specs.Parts.{IsToldOf};
 ghost use Rattle.hb_talk.specs.Comings.{ComesOf};
+ghost use Rattle.hb_talk.specs.Wanting.{keeps_body};
 
-use crate::wanted::{Wanted, wants};
+use crate::wanted::{Wanted, is_short, wants};
 use hb_http::Head;
 use hb_routes::Router;
 use hb_text::{Memory, Text};
@@ -13,13 +14,13 @@ use std::alloc::Global;
 /// A request whose head has come.
 #[derive(Drop)]
 pub(crate) struct Coming {
-    /// What it wants, where it is served.
-    pub(crate) wanted: Option<Wanted>,
+    /// What it wants.
+    pub(crate) wanted: Wanted,
     /// Its Content-Type.
     pub(crate) media: Option<Text>,
     /// Whether the connection closes behind it.
     pub(crate) last: bool,
-    /// Its body so far, where it is served: another one's is dropped.
+    /// Its body so far, where that is gathered.
     pub(crate) body: Vec<u8>,
 }
 
@@ -29,7 +30,7 @@ impl Coming {
         ensures { IfOk result (λ c. (c.body.items ≡ []) × ((h : RequestHead) → IsToldOf h head → ComesOf c.wanted c.media c.last h)) }
     {
         let wanted = wants(alloc, router, &head)?;
-        let last = head.close || wanted.is_none();
+        let last = head.close || !is_short(head.length);
         Ok(Coming {
             wanted,
             media: head.content_type,
@@ -41,9 +42,9 @@ impl Coming {
     /// Adds a piece of the body. `Memory` comes where memory was wanting.
     pub(crate) fn add(&mut self, piece: &[u8]) -> Result<(), Memory>
         ensures same { (self.new.wanted ≡ self.old.wanted) × (self.new.media ≡ self.old.media) × (self.new.last ≡ self.old.last) }
-        ensures body { OnOk result (IfSome self.old.wanted (λ w. self.new.body.items ≡ self.old.body.items ++ piece.now)) }
+        ensures body { OnOk result (keeps_body self.old.wanted ≡ true → self.new.body.items ≡ self.old.body.items ++ piece.now) }
     {
-        if self.wanted.is_some() {
+        if self.wanted.keeps_body() {
             self.body.extend_from_slice(piece)?;
         }
         Ok(())

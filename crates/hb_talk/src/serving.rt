@@ -1,4 +1,4 @@
-//! What is done over a desk for a request that is served.
+//! What is done over a desk for a request.
 ghost use Rattle.std.specs.Prelude.{◌≡◌, ℕ, List, [], length, true, false, None, IfErr, IfOk, IfSome};
 ghost use Rattle.std.specs.Option.{option_copied};
 ghost use Rattle.hb_text.specs.Digests.{digest_of};
@@ -15,7 +15,9 @@ ghost use Rattle.hb_talk.specs.Driving.{Driven, IsPut, IsRefused, Worked, parcel
 ghost use Rattle.hb_talk.specs.Tasks.{location_of, push_answer as answer_by, names_other, put_of, task_of};
 ghost use Rattle.hb_talk.specs.Tasks.Task.{Gets, Pushes};
 
-use crate::answers::{bad_manifest, created, got, location, wrong_digest};
+use crate::answers::{
+    bad_manifest, base, created, got, location, no_route, too_long, unsupported, wrong_digest,
+};
 use crate::wanted::Wanted;
 use hb_desk::{Answer, Desk, Op, Progress};
 use hb_manifest::{Manifest, read_manifest};
@@ -209,6 +211,10 @@ pub(crate) fn serve<D: Desk, C: Clock>(
     ensures phrase { IfOk result (λ a. HasPhrase a.status) }
 {
     match wanted {
+        Wanted::Base => base(alloc),
+        Wanted::Unbuilt | Wanted::InChunks => unsupported(alloc),
+        Wanted::TooLong => too_long(alloc),
+        Wanted::Unrouted { fault } => no_route(alloc, fault),
         Wanted::PushBlob { name, digest } => push_blob(alloc, desk, clock, name, digest, body),
         Wanted::GetBlob { name, digest } => {
             get(alloc, desk, clock, Get::blob(alloc, name, digest))

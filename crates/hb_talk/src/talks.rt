@@ -1,5 +1,5 @@
 //! A talk over one connection.
-ghost use Rattle.std.specs.Prelude.{◌≡◌, ◌<◌, ◌≤◌, ◌^◌, [], length, None, Some, IfOk, IfSome, OnErr};
+ghost use Rattle.std.specs.Prelude.{◌≡◌, ◌<◌, ◌≤◌, ◌^◌, [], length, true, None, Some, IfOk, IfSome, OnErr};
 ghost use Rattle.hb_outside.specs.Causes.{HasCause, Rose};
 ghost use Rattle.hb_http.specs.AnswerHeads.{HasPhrase};
 ghost use Rattle.hb_http.specs.Readings.{Given};
@@ -8,9 +8,9 @@ ghost use Rattle.hb_http.specs.declared.TheConstants.{MAX_HEAD};
 ghost use Rattle.hb_desk.specs.Points.{IsStreamFault, Moves};
 ghost use Rattle.hb_talk.specs.Comings.{ComesOf};
 ghost use Rattle.hb_talk.specs.Progress.{Answered, Begins, Came, Comes, Gathers, GoesOn, Progress, Reads, Served, end_of, work_left};
+ghost use Rattle.hb_talk.specs.Wanting.{keeps_body};
 ghost use Rattle.hb_talk.specs.Talks.{Moment, Talked, now_of};
 
-use crate::answers::unsupported;
 use crate::coming::Coming;
 use crate::ends::{TalkEnd, Turned};
 use crate::serving::serve;
@@ -72,7 +72,7 @@ fn answer_of<D: Desk, C: Clock>(
     clock: &mut C,
     coming: Coming,
 ) -> Result<Answer, Memory>
-    ensures served { (g : Given) → ComesOf coming.wanted coming.media coming.last g.head → IfSome coming.wanted (λ w. coming.body.items ≡ g.content)
+    ensures served { (g : Given) → ComesOf coming.wanted coming.media coming.last g.head → (keeps_body coming.wanted ≡ true → coming.body.items ≡ g.content)
         → IfSome (D.view desk.old).state (λ s. Served (IsStreamFault D.Stage D.Reader D.Stage.faults D.Reader.faults) (D.view desk.old) (D.view desk.new) g result) }
     ensures moves { Moves (D.view desk.old) (D.view desk.new) }
     ensures phrase { IfOk result (λ a. HasPhrase a.status) }
@@ -83,17 +83,9 @@ fn answer_of<D: Desk, C: Clock>(
         last: _,
         body,
     } = coming;
-    match wanted {
-        Some(wanted) => {
-            let answer = serve(alloc, desk, clock, wanted, &media, Text::of(body));
-            mem::drop(media);
-            answer
-        }
-        None => {
-            mem::drop(media);
-            unsupported(alloc)
-        }
-    }
+    let answer = serve(alloc, desk, clock, wanted, &media, Text::of(body));
+    mem::drop(media);
+    answer
 }
 
 // Reads at most so many bytes, and hands them to the session. None is the end of the input.

@@ -80,7 +80,25 @@ const BAD_MANIFEST: &[u8] =
     b"HTTP/1.1 400 Bad Request\r\nContent-Length: 81\r\nContent-Type: application/json\r\n\r\n{\"errors\":[{\"code\":\"MANIFEST_INVALID\",\"detail\":{},\"message\":\"manifest invalid\"}]}";
 
 const UNSUPPORTED: &[u8] =
+    b"HTTP/1.1 404 Not Found\r\nContent-Length: 71\r\nContent-Type: application/json\r\n\r\n{\"errors\":[{\"code\":\"UNSUPPORTED\",\"detail\":{},\"message\":\"unsupported\"}]}";
+
+const UNSUPPORTED_LAST: &[u8] =
     b"HTTP/1.1 404 Not Found\r\nConnection: close\r\nContent-Length: 71\r\nContent-Type: application/json\r\n\r\n{\"errors\":[{\"code\":\"UNSUPPORTED\",\"detail\":{},\"message\":\"unsupported\"}]}";
+
+const TOO_LONG: &[u8] =
+    b"HTTP/1.1 413 Payload Too Large\r\nConnection: close\r\nContent-Length: 73\r\nContent-Type: application/json\r\n\r\n{\"errors\":[{\"code\":\"SIZE_INVALID\",\"detail\":{},\"message\":\"size invalid\"}]}";
+
+const NO_METHOD: &[u8] =
+    b"HTTP/1.1 405 Method Not Allowed\r\nContent-Length: 71\r\nContent-Type: application/json\r\n\r\n{\"errors\":[{\"code\":\"UNSUPPORTED\",\"detail\":{},\"message\":\"unsupported\"}]}";
+
+const BAD_NAME: &[u8] =
+    b"HTTP/1.1 400 Bad Request\r\nContent-Length: 73\r\nContent-Type: application/json\r\n\r\n{\"errors\":[{\"code\":\"NAME_INVALID\",\"detail\":{},\"message\":\"name invalid\"}]}";
+
+const BAD_DIGEST: &[u8] =
+    b"HTTP/1.1 400 Bad Request\r\nContent-Length: 77\r\nContent-Type: application/json\r\n\r\n{\"errors\":[{\"code\":\"DIGEST_INVALID\",\"detail\":{},\"message\":\"digest invalid\"}]}";
+
+const BASE: &[u8] =
+    b"HTTP/1.1 200 OK\r\nContent-Length: 2\r\nContent-Type: application/json\r\n\r\n{}";
 
 const KEEPER: &[u8] =
     b"HTTP/1.1 500 Internal Server Error\r\nContent-Length: 61\r\nContent-Type: application/json\r\n\r\n{\"errors\":[{\"code\":\"KEEPER\",\"detail\":{},\"message\":\"keeper\"}]}";
@@ -183,7 +201,7 @@ fn an_image_is_pushed_and_pulled(rt: HostRuntime) -> Result<(), Fail> {
 #[test]
 fn each_refusal_has_its_answer(rt: HostRuntime) -> Result<(), Fail> {
     let alloc = rt.alloc();
-    let cases: [(&[u8], &[u8]); 11] = [
+    let cases: [(&[u8], &[u8]); 17] = [
         // another digest than the body's
         (
             b"POST /v2/library/a/blobs/uploads/?digest=sha256%3Ae3b0c44298fc1c149afbf4c8996fb92427ae41e4649b934ca495991b7852b855 HTTP/1.1\r\nHost: r\r\nContent-Length: 3\r\n\r\nabc",
@@ -220,15 +238,36 @@ fn each_refusal_has_its_answer(rt: HostRuntime) -> Result<(), Fail> {
             b"PUT /v2/library/a/manifests/v1 HTTP/1.1\r\nHost: r\r\nContent-Type: text/plain\r\nContent-Length: 2\r\n\r\n{}",
             BAD_MANIFEST,
         ),
-        // what isn't served closes, and what stands behind it isn't answered
+        // a registry
+        (b"GET /v2/ HTTP/1.1\r\n\r\n", BASE),
+        // what isn't built yet, whose body is dropped
         (
-            b"GET /v2/ HTTP/1.1\r\n\r\nGET /v2/ HTTP/1.1\r\n\r\n",
+            b"POST /harbor/jobs?kind=collect HTTP/1.1\r\nHost: r\r\nContent-Length: 3\r\n\r\nabc",
             UNSUPPORTED,
         ),
-        // a body whose length isn't told
+        // no path
+        (b"GET /v3/ HTTP/1.1\r\n\r\n", UNSUPPORTED),
+        // no method of the path
+        (b"PUT /v2/ HTTP/1.1\r\n\r\n", NO_METHOD),
+        // no name
         (
-            b"POST /v2/library/a/blobs/uploads/?digest=sha256:ba7816bf8f01cfea414140de5dae2223b00361a396177a9cb410ff61f20015ad HTTP/1.1\r\nTransfer-Encoding: chunked\r\n\r\n3\r\nabc\r\n0\r\n\r\n",
-            UNSUPPORTED,
+            b"GET /v2/A/blobs/sha256:ba7816bf8f01cfea414140de5dae2223b00361a396177a9cb410ff61f20015ad HTTP/1.1\r\n\r\n",
+            BAD_NAME,
+        ),
+        // no tag
+        (
+            b"GET /v2/library/a/manifests/- HTTP/1.1\r\n\r\n",
+            BAD_MANIFEST,
+        ),
+        // no digest
+        (
+            b"GET /v2/library/a/blobs/sha256:0 HTTP/1.1\r\n\r\n",
+            BAD_DIGEST,
+        ),
+        // a body in chunks closes, and what stands behind it isn't answered
+        (
+            b"POST /v2/library/a/blobs/uploads/?digest=sha256:ba7816bf8f01cfea414140de5dae2223b00361a396177a9cb410ff61f20015ad HTTP/1.1\r\nTransfer-Encoding: chunked\r\n\r\n3\r\nabc\r\n0\r\n\r\nGET /v2/ HTTP/1.1\r\n\r\n",
+            UNSUPPORTED_LAST,
         ),
     ];
     for (input, output) in cases {
@@ -236,6 +275,23 @@ fn each_refusal_has_its_answer(rt: HostRuntime) -> Result<(), Fail> {
         assert_eq!(rt; end, TalkEnd::Closed);
         assert_eq!(rt; said.as_slice(), output);
     }
+    Ok(())
+}
+
+// A longer body than is gathered is dropped, and closes.
+#[test]
+fn a_body_above_the_limit_is_refused(rt: HostRuntime) -> Result<(), Fail> {
+    let alloc = rt.alloc();
+    let mut input = joined(
+        alloc,
+        &[b"PUT /v2/library/a/manifests/v1 HTTP/1.1\r\nContent-Length: 4194305\r\n\r\n"],
+    )?;
+    let body = vec![in alloc; 32u8; 4_194_305]?;
+    input.extend_from_slice(&body)?;
+    input.extend_from_slice(GET_TAG)?;
+    let (end, said) = plain(alloc, &[], &[], &input)?;
+    assert_eq!(rt; end, TalkEnd::Closed);
+    assert_eq!(rt; said.as_slice(), TOO_LONG);
     Ok(())
 }
 

@@ -1,7 +1,7 @@
 use Rattle.std.proofs.Common.{◌∙◌, Ok, Some, refl, subst, sym}
 use Rattle.hb_outside.specs.Streams.{Writes, WritesPart}
 use Rattle.hb_talk.specs.Progress.{Comes}
-use Rattle.hb_talk.proofs.Served.{turn-of, turn-text}
+use Rattle.hb_talk.proofs.Served.{served-chain, turn-of, turn-text}
 use Rattle.hb_talk.proofs.talks.Connection.answer.Goals as goal
 
 pub returns-in-Ok-write-clause-answered : goal.returns-in-Ok-write-clause-answered
@@ -35,3 +35,13 @@ returns-clause-answered g c = rw (← c.self.view_is) (λ given comes.
       turn-text (WritesPart (g.O.Sink.held c.args.out.now) (g.O.Sink.held c.write.new.self)) t.turn c.in-Some.coming.last c.in-Ok.answer c.deref.result.now t.closes_is t.answer_is
           (c.deref.ensures.value ∙ c.in-Ok-text_of.ensures) c.in-Err.ensures.bytes,
     ))
+
+pub returns-in_default-answer_of-clause-answered : goal.returns-in_default-answer_of-clause-answered
+returns-in_default-answer_of-clause-answered g c = rw (← c.self.view_is) (λ given comes.
+    let mine = subst (λ coming. Comes coming (Some given)) (sym c.in-Some.ensures.value) comes in
+    (served-chain _ (g.D.Desk.view c.args.desk.now) (g.D.Desk.view c.answer_of.new.desk) given (g.D.Desk.view c.args.desk.now).state c.answer_of.result (c.answer_of.ensures.served given mine.0 mine.1), refl))
+
+pub returns-in_default-text_of-clause-answered : goal.returns-in_default-text_of-clause-answered
+returns-in_default-text_of-clause-answered g c = rw (← c.self.view_is) (λ given comes.
+    let mine = subst (λ coming. Comes coming (Some given)) (sym c.in-Some.ensures.value) comes in
+    (served-chain _ (g.D.Desk.view c.args.desk.now) (g.D.Desk.view c.answer_of.new.desk) given (g.D.Desk.view c.args.desk.now).state c.answer_of.result (c.answer_of.ensures.served given mine.0 mine.1), refl))

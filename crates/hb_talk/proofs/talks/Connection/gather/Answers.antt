@@ -1,4 +1,4 @@
-use Rattle.std.proofs.Common.{◌≡◌, ◌++◌, IfSome, Some, refl, subst, sym}
+use Rattle.std.proofs.Common.{◌≡◌, ◌++◌, Some, refl, subst, sym}
 use Rattle.hb_talk.specs.Progress.{Gathers, TalkParts}
 use Rattle.hb_talk.proofs.talks.Connection.gather.Goals.{in-Ok, in-Err}
 use Rattle.hb_talk.proofs.talks.Connection.gather.Goals as goal
@@ -17,7 +17,7 @@ returns c = rw (← c.self.view_is) (
           wanted = c.add.ensures.same.0;
           media = c.add.ensures.same.1;
           last = c.add.ensures.same.2;
-          body = subst (λ piece. IfSome c.in-Some.coming.wanted (λ w. c.add.new.self.body.items ≡ c.in-Some.coming.body.items ++ piece)) c.body.ensures w.in-Ok.ensures.body;
+          body = λ kept. subst (λ piece. c.add.new.self.body.items ≡ c.in-Some.coming.body.items ++ piece) c.body.ensures (w.in-Ok.ensures.body kept);
         },
       )
       | in-Err w ↦ subst (λ turned. Gathers before after turned) (sym w.result-is) tt

@@ -1,0 +1,29 @@
+use Rattle.std.proofs.Common.{ap}
+use Rattle.hb_talk.specs.Tasks.{base, route_error, task_of, too_long, unsupported}
+use Rattle.hb_talk.specs.Tasks.Task.{Refuses, Tells}
+use Rattle.hb_talk.proofs.Answering.{as-task, refused-worked, told-worked, unbuilt-task}
+use Rattle.hb_talk.proofs.serving.serve.Goals as goal
+
+pub returns-in-Base-clause-worked : goal.returns-in-Base-clause-worked
+returns-in-Base-clause-worked g c =
+    as-task _ _ (Tells base) (g.D.Desk.view c.args.desk.now) (g.D.Desk.view c.args.desk.now) (g.D.Desk.view c.args.desk.now).state c.base.result
+    (ap (λ w. task_of w c.args.media.now c.args.body) c.in-Base.is)
+    (told-worked _ base (g.D.Desk.view c.args.desk.now) (g.D.Desk.view c.args.desk.now).state c.base.result c.base.ensures)
+
+pub returns-in-Unbuilt-clause-worked : goal.returns-in-Unbuilt-clause-worked
+returns-in-Unbuilt-clause-worked g c =
+    as-task _ _ (Refuses unsupported) (g.D.Desk.view c.args.desk.now) (g.D.Desk.view c.args.desk.now) (g.D.Desk.view c.args.desk.now).state c.unsupported.result
+    (unbuilt-task c.args.wanted c.args.media.now c.args.body c.in-Unbuilt.is)
+    (refused-worked _ unsupported (g.D.Desk.view c.args.desk.now) (g.D.Desk.view c.args.desk.now).state c.unsupported.result c.unsupported.ensures)
+
+pub returns-in-TooLong-clause-worked : goal.returns-in-TooLong-clause-worked
+returns-in-TooLong-clause-worked g c =
+    as-task _ _ (Refuses too_long) (g.D.Desk.view c.args.desk.now) (g.D.Desk.view c.args.desk.now) (g.D.Desk.view c.args.desk.now).state c.too_long.result
+    (ap (λ w. task_of w c.args.media.now c.args.body) c.in-TooLong.is)
+    (refused-worked _ too_long (g.D.Desk.view c.args.desk.now) (g.D.Desk.view c.args.desk.now).state c.too_long.result c.too_long.ensures)
+
+pub returns-in-Unrouted-clause-worked : goal.returns-in-Unrouted-clause-worked
+returns-in-Unrouted-clause-worked g c =
+    as-task _ _ (Refuses (route_error c.in-Unrouted.fault)) (g.D.Desk.view c.args.desk.now) (g.D.Desk.view c.args.desk.now) (g.D.Desk.view c.args.desk.now).state c.no_route.result
+    (ap (λ w. task_of w c.args.media.now c.args.body) c.in-Unrouted.is)
+    (refused-worked _ (route_error c.in-Unrouted.fault) (g.D.Desk.view c.args.desk.now) (g.D.Desk.view c.args.desk.now).state c.no_route.result c.no_route.ensures)
