@@ -32,6 +32,12 @@ const UNKNOWN: &[u8] =
 const UNSUPPORTED: &[u8] =
     b"HTTP/1.1 404 Not Found\r\nConnection: close\r\nContent-Length: 71\r\nContent-Type: application/json\r\n\r\n{\"errors\":[{\"code\":\"UNSUPPORTED\",\"detail\":{},\"message\":\"unsupported\"}]}";
 
+const BAD_HEAD: &[u8] =
+    b"HTTP/1.1 400 Bad Request\r\nConnection: close\r\nContent-Length: 73\r\nContent-Type: application/json\r\n\r\n{\"errors\":[{\"code\":\"HEAD_INVALID\",\"detail\":{},\"message\":\"head invalid\"}]}";
+
+const HEAD_TOO_LONG: &[u8] =
+    b"HTTP/1.1 431 Request Header Fields Too Large\r\nConnection: close\r\nContent-Length: 73\r\nContent-Type: application/json\r\n\r\n{\"errors\":[{\"code\":\"HEAD_INVALID\",\"detail\":{},\"message\":\"head invalid\"}]}";
+
 const BASE: &[u8] =
     b"HTTP/1.1 200 OK\r\nContent-Length: 2\r\nContent-Type: application/json\r\n\r\n{}";
 
@@ -240,17 +246,11 @@ fn a_body_above_the_limit_is_refused(rt: HostRuntime) -> Result<(), Fail> {
 }
 
 #[test]
-fn what_is_no_whole_request_has_no_answer(rt: HostRuntime) -> Result<(), Fail> {
+fn what_is_cut_has_no_answer(rt: HostRuntime) -> Result<(), Fail> {
     let alloc = rt.alloc();
-    let cases: [&[u8]; 6] = [
-        // cut short
+    let cases: [&[u8]; 2] = [
         b"GET /v2/ HTTP/1.1\r\n",
         b"POST /v2/library/a/blobs/uploads/?digest=sha256:ba7816bf8f01cfea414140de5dae2223b00361a396177a9cb410ff61f20015ad HTTP/1.1\r\nContent-Length: 3\r\n\r\nab",
-        // malformed
-        b"\x16\x03\x01",
-        b"GET /v2/ HTTP/1.1\r\nContent-Length: 1\r\nContent-Length: 2\r\n\r\n",
-        b"GET /v2/ HTTP/1.1\r\nContent-Length: 01\r\n\r\n",
-        b"GET /v2/ HTTP/1.1\r\nContent-Length: 0\r\nTransfer-Encoding: chunked\r\n\r\n",
     ];
     for input in cases {
         let (status, said) = plain(alloc, input, 65_536)?;
@@ -260,18 +260,54 @@ fn what_is_no_whole_request_has_no_answer(rt: HostRuntime) -> Result<(), Fail> {
     Ok(())
 }
 
+// Malformed bytes are answered behind the answers of the requests before them, and end the talk.
 #[test]
-fn a_head_above_its_limits_ends_the_talk(rt: HostRuntime) -> Result<(), Fail> {
+fn what_is_malformed_is_refused(rt: HostRuntime) -> Result<(), Fail> {
     let alloc = rt.alloc();
-    for (headers, status) in [(100, 0), (101, 11)] {
+    let cases: [&[u8]; 6] = [
+        b"\x16\x03\x01",
+        b"GET /v2/ HTTP/1.1\r\nContent-Length: 1\r\nContent-Length: 2\r\n\r\n",
+        b"GET /v2/ HTTP/1.1\r\nContent-Length: 01\r\n\r\n",
+        b"GET /v2/ HTTP/1.1\r\nContent-Length: 0\r\nTransfer-Encoding: chunked\r\n\r\n",
+        b"GET /v2/ HTTP/1.1\r\nTransfer-Encoding: gzip\r\n\r\n",
+        b"GET /v2/ HTTP/1.1\r\nTransfer-Encoding: chunked\r\n\r\nx\r\n",
+    ];
+    for input in cases {
+        let (status, said) = plain(alloc, input, 65_536)?;
+        assert_eq!(rt; status, 11);
+        assert_eq!(rt; said.as_slice(), BAD_HEAD);
+        let mut behind = joined(alloc, &[b"GET /v2/ HTTP/1.1\r\n\r\n"])?;
+        behind.extend_from_slice(input)?;
+        let (status, said) = plain(alloc, &behind, 1)?;
+        assert_eq!(rt; status, 11);
+        assert_eq!(rt;
+            said.as_slice(),
+            joined(alloc, &[BASE, BAD_HEAD])?.as_slice()
+        );
+    }
+    Ok(())
+}
+
+// 100 headers are served, and one more is refused; so is a head of more than 65,536 bytes.
+#[test]
+fn a_head_above_its_limits_is_refused(rt: HostRuntime) -> Result<(), Fail> {
+    let alloc = rt.alloc();
+    for (headers, status, answer) in [(100, 0, BASE), (101, 11, HEAD_TOO_LONG)] {
         let mut input = joined(alloc, &[b"GET /v2/ HTTP/1.1\r\n"])?;
         for _ in 0..headers {
             input.extend_from_slice(b"a: b\r\n")?;
         }
         input.extend_from_slice(b"\r\n")?;
-        let (ended, _said) = plain(alloc, &input, 65_536)?;
+        let (ended, said) = plain(alloc, &input, 65_536)?;
         assert_eq!(rt; ended, status, "{headers} headers");
+        assert_eq!(rt; said.as_slice(), answer);
     }
+    let mut input = joined(alloc, &[b"GET /v2/ HTTP/1.1\r\na: "])?;
+    let value = vec![in alloc; b'b'; 65_536]?;
+    input.extend_from_slice(&value)?;
+    let (ended, said) = plain(alloc, &input, 65_536)?;
+    assert_eq!(rt; ended, 11);
+    assert_eq!(rt; said.as_slice(), HEAD_TOO_LONG);
     Ok(())
 }
 

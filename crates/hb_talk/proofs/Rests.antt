@@ -16,7 +16,7 @@ use Rattle.hb_http.specs.declared.chunk_places.ChunkPlace.{ChunkPlace}
 use Rattle.hb_http.specs.declared.chunk_places.ChunkPlace.TheVariants.{Over, Bad as BadBody}
 use Rattle.hb_http.specs.declared.places.Place.{Place}
 use Rattle.hb_http.specs.declared.places.Place.TheVariants.{Between, Counted, Chunked}
-use Rattle.hb_talk.specs.Talks.{IsUnreadable}
+use Rattle.hb_talk.specs.Talks.{IsMalformedRest}
 use Rattle.hb_http.proofs.ChunkLaws.{bad_stays}
 use Rattle.hb_http.proofs.ChunkRuns.{run_body}
 use Rattle.hb_http.proofs.FramingLaws.{HasLength-not_chunked, HasLength-unique}
@@ -121,12 +121,12 @@ many-none bytes many r more begins = IsHead-not_many bytes r.head (r.body ++ mor
 
 -- ---- why nothing further is read
 -- malformed bytes behind what a session took are malformed with it
-pub unreadable : (place : Place) (now : Option Given) (begun waiting : List ℕ) → IsBegun place now begun → IsBad place waiting → IsUnreadable (begun ++ waiting)
-unreadable Between None begun waiting is bad = subst (λ (b : List ℕ). IsUnreadable (b ++ waiting)) (sym is) (inl bad.0)
-unreadable Between (Some g) begun waiting is bad = absurd is
-unreadable (Counted left) now begun waiting is bad = absurd bad
-unreadable (Chunked place) None begun waiting is bad = absurd is
-unreadable (Chunked place) (Some g) begun waiting is bad = inr (inr (inr (
+pub malformed-rest : (place : Place) (now : Option Given) (begun waiting : List ℕ) → IsBegun place now begun → IsBad place waiting → IsMalformedRest (begun ++ waiting)
+malformed-rest Between None begun waiting is bad = subst (λ (b : List ℕ). IsMalformedRest (b ++ waiting)) (sym is) (inl bad.0)
+malformed-rest Between (Some g) begun waiting is bad = absurd is
+malformed-rest (Counted left) now begun waiting is bad = absurd bad
+malformed-rest (Chunked place) None begun waiting is bad = absurd is
+malformed-rest (Chunked place) (Some g) begun waiting is bad = inr (
   g.head,
   is.begun ++ waiting,
   IsHead-append begun waiting g.head is.begun is.is_head,
@@ -137,4 +137,4 @@ unreadable (Chunked place) (Some g) begun waiting is bad = inr (inr (inr (
     ap (λ (b : List ℕ). is.begun ++ b) bad.2 ∙ sym (append_assoc is.begun bad.0 bad.1),
     fold-append chunk_step body_start is.begun bad.0 ∙ (ap (λ (p : ChunkPlace). place_after p bad.0) is.arrives ∙ bad.3.arrives),
   ),
-)))
+)

@@ -16,7 +16,7 @@ use Rattle.hb_desk.specs.Points.{Point}
 use Rattle.hb_desk.specs.State.{State}
 use Rattle.hb_desk.specs.declared.refusals.Refusal.{Refusal}
 use Rattle.hb_talk.specs.Progress.{Comes, NextTurn, Progress, Reads, TalkParts}
-use Rattle.hb_talk.specs.Talks.{AtDesk, BeginWith, Closes, HasCause, IsUnreadable, Moment, Talked, Unanswered, Wrote}
+use Rattle.hb_talk.specs.Talks.{AtDesk, BeginWith, Closes, HasCause, HasRefusal, IsMalformedRest, IsOverLimits, Moment, RefusesRest, Talked, Unanswered, Wrote}
 use Rattle.hb_talk.specs.Talks as talks
 use Rattle.hb_talk.specs.Texts.{answer_text}
 use Rattle.hb_talk.specs.Turns.{Answers, ClosesBy, Turn, given_by, points_of, turns_text}
@@ -27,7 +27,7 @@ use Rattle.hb_talk.specs.declared.ends.TalkEnd.TheVariants as end
 use Rattle.hb_talk.specs.declared.ends.Turned.TheVariants.{More, Ended}
 use Rattle.hb_talk.proofs.Chains.{chain-append, chain-bytes, chain-told}
 use Rattle.hb_talk.proofs.Requests.{all-of, all-to-last, begun-some, front-of}
-use Rattle.hb_talk.proofs.Rests.{many-none, rest-bad, rest-none, unreadable}
+use Rattle.hb_talk.proofs.Rests.{malformed-rest, many-none, rest-bad, rest-none}
 use Rattle.hb_talk.proofs.Streams.{Gives-append, Gives-none, Writes-append, Writes-none, WritesPart-append}
 
 -- ---- lists of turns
@@ -132,8 +132,8 @@ module _ (Streams : Option Refusal → Type 0) (start now : Moment) (talk : Talk
   few most = subst (λ n. n ≤ 2 ^ 62) so_far.count most
 
   -- no further request stands in the bytes
-  ended-none : (e : TalkEnd) → talk.taken ≤ 2 ^ 62 → HasNoRequest IsBodyText rest → ((rs : List Request) → RequestsOf IsBodyText Closes bytes rs rest → talks.Reads e bytes rs rest) → (Writes start.held now.held (turns_text so_far.turns) → Wrote e start.held now.held (turns_text so_far.turns)) → HasCause e now.ended bytes so_far.turns rest → Unanswered e [] → Talked Streams start now e
-  ended-none e most none reads wrote cause left =
+  ended-none : (e : TalkEnd) → talk.taken ≤ 2 ^ 62 → HasNoRequest IsBodyText rest → ((rs : List Request) → RequestsOf IsBodyText Closes bytes rs rest → talks.Reads e bytes rs rest) → (Writes start.held now.held (turns_text so_far.turns) → Wrote e start.held now.held (turns_text so_far.turns)) → HasCause e now.ended bytes so_far.turns rest → Unanswered e [] → HasRefusal e rest None → Talked Streams start now e
+  ended-none e most none reads wrote cause left refused =
       let all = all-of so_far.turns so_far.given so_far.gone talk.standing.waiting talk.standing.place so_far.reads so_far.open_ so_far.closes none in
       record {
         turns = so_far.turns;
@@ -146,17 +146,58 @@ module _ (Streams : Option Refusal → Type 0) (start now : Moment) (talk : Talk
         given = all.given;
         reads = reads all.requests all.reads;
         closes = so_far.closes;
+        refusal = None;
         written = wrote so_far.written;
+        refused = refused;
         cause = cause;
         left = left;
         desk = so_far.desk;
       }
 
-  pub ended-bad : talk.taken ≤ 2 ^ 62 → HasNoRequest IsBodyText rest → IsUnreadable rest → Talked Streams start now end.Bad
-  ended-bad most none cause = ended-none end.Bad most none (λ rs h. h) (λ h. h) cause refl
+  -- a rest that is refused
+  pub refused-ends : (held : Option (List ℕ)) (text : List ℕ) → talk.taken ≤ 2 ^ 62 → HasNoRequest IsBodyText rest → RefusesRest rest text → Writes now.held held text → Talked Streams start (record { view = now.view; left = now.left; ended = now.ended; held = held }) end.Bad
+  refused-ends held text most none refuses writes =
+      let all = all-of so_far.turns so_far.given so_far.gone talk.standing.waiting talk.standing.place so_far.reads so_far.open_ so_far.closes none in
+      record {
+        turns = so_far.turns;
+        requests = all.requests;
+        taken = bytes;
+        rest = rest;
+        points = [];
+        gives = so_far.gives;
+        few = few most;
+        given = all.given;
+        reads = all.reads;
+        closes = so_far.closes;
+        refusal = Some text;
+        written = Writes-append start.held now.held held (turns_text so_far.turns) text so_far.written writes;
+        refused = refuses;
+        cause = tt;
+        left = refl;
+        desk = so_far.desk;
+      }
 
-  pub bad-ends : talk.taken ≤ 2 ^ 62 → IsBad talk.standing.place talk.standing.waiting → Talked Streams start now end.Bad
-  bad-ends most bad = ended-bad most (rest-bad talk.standing.place so_far.given so_far.reads.begun talk.standing.waiting so_far.reads.is_begun bad) (unreadable talk.standing.place so_far.given so_far.reads.begun talk.standing.waiting so_far.reads.is_begun bad)
+  pub refused-part : (held : Option (List ℕ)) (text : List ℕ) → talk.taken ≤ 2 ^ 62 → RefusesRest rest text → WritesPart now.held held text → Talked Streams start (record { view = now.view; left = now.left; ended = now.ended; held = held }) end.WriteFault
+  refused-part held text most refuses part =
+      let front = front-of (given_by so_far.turns) so_far.given so_far.gone talk.standing.waiting talk.standing.place so_far.reads in
+      record {
+        turns = so_far.turns;
+        requests = front.requests;
+        taken = bytes;
+        rest = rest;
+        points = [];
+        gives = so_far.gives;
+        few = few most;
+        given = front.given;
+        reads = front.begin;
+        closes = so_far.closes;
+        refusal = Some text;
+        written = WritesPart-append start.held now.held held (turns_text so_far.turns) text so_far.written part;
+        refused = refuses;
+        cause = tt;
+        left = refl;
+        desk = so_far.desk;
+      }
 
   -- between two requests the rest is what waits
   rest-waits : talk.standing.place ≡ Between → rest ≡ talk.standing.waiting
@@ -166,20 +207,27 @@ module _ (Streams : Option Refusal → Type 0) (start now : Moment) (talk : Talk
       nothing None is = is
       nothing (Some g) is = absurd is
 
-  pub many-ends : talk.taken ≤ 2 ^ 62 → talk.standing.place ≡ Between → HasTooManyHeaders talk.standing.waiting → Talked Streams start now end.Bad
-  many-ends most at many = ended-bad most (subst (HasNoRequest IsBodyText) (sym (rest-waits at)) (many-none talk.standing.waiting many)) (subst IsUnreadable (sym (rest-waits at)) (inr (inl many)))
+  -- why a rest is refused
+  pub bad-rest : IsBad talk.standing.place talk.standing.waiting → HasNoRequest IsBodyText rest × IsMalformedRest rest
+  bad-rest bad = (
+    rest-bad talk.standing.place so_far.given so_far.reads.begun talk.standing.waiting so_far.reads.is_begun bad,
+    malformed-rest talk.standing.place so_far.given so_far.reads.begun talk.standing.waiting so_far.reads.is_begun bad,
+  )
 
-  pub long-ends : talk.taken ≤ 2 ^ 62 → talk.standing.place ≡ Between → IsHeadTooLong talk.standing.waiting → Talked Streams start now end.Bad
-  long-ends most at long = ended-bad most (subst (HasNoRequest IsBodyText) (sym (rest-waits at)) (HasNoHead-no_request IsBodyText talk.standing.waiting long.1)) (subst IsUnreadable (sym (rest-waits at)) (inr (inr (inl long))))
+  pub many-rest : talk.standing.place ≡ Between → HasTooManyHeaders talk.standing.waiting → HasNoRequest IsBodyText rest × IsOverLimits rest
+  many-rest at many = (subst (HasNoRequest IsBodyText) (sym (rest-waits at)) (many-none talk.standing.waiting many), subst IsOverLimits (sym (rest-waits at)) (inl many))
+
+  pub long-rest : talk.standing.place ≡ Between → IsHeadTooLong talk.standing.waiting → HasNoRequest IsBodyText rest × IsOverLimits rest
+  long-rest at long = (subst (HasNoRequest IsBodyText) (sym (rest-waits at)) (HasNoHead-no_request IsBodyText talk.standing.waiting long.1), subst IsOverLimits (sym (rest-waits at)) (inr long))
 
   none-left : HoldsNoPart talk.standing.place talk.standing.waiting → HasNoRequest IsBodyText rest
   none-left none = rest-none talk.standing.place so_far.given so_far.reads.begun talk.standing.waiting so_far.reads.is_begun none
 
   pub input-ends : talk.taken ≤ 2 ^ 62 → talk.standing.closed ≡ true → HoldsNoPart talk.standing.place talk.standing.waiting → talk.standing.place ≡ Between → talk.standing.waiting ≡ [] → Talked Streams start now end.Closed
-  input-ends most closed none at empty = ended-none end.Closed most (none-left none) (λ rs h. h) (λ h. h) (rest-waits at ∙ empty, inl (so_far.ended closed)) refl
+  input-ends most closed none at empty = ended-none end.Closed most (none-left none) (λ rs h. h) (λ h. h) (rest-waits at ∙ empty, inl (so_far.ended closed)) refl tt
 
   pub cut-ends : talk.taken ≤ 2 ^ 62 → talk.standing.closed ≡ true → (talk.standing.place ≡ Between → talk.standing.waiting ≢ []) → HoldsNoPart talk.standing.place talk.standing.waiting → Talked Streams start now end.Cut
-  cut-ends most closed some none = ended-none end.Cut most (none-left none) (λ rs h. h) (λ h. h) (left, so_far.ended closed) refl
+  cut-ends most closed some none = ended-none end.Cut most (none-left none) (λ rs h. h) (λ h. h) (left, so_far.ended closed) refl tt
     where
       front-nil : (a b : List ℕ) → a ++ b ≡ [] → a ≡ []
       front-nil [] b is = refl
@@ -200,8 +248,8 @@ module _ (Streams : Option Refusal → Type 0) (start now : Moment) (talk : Talk
   still left' ended' e left ended talked = subst (λ left. Talked Streams start (record { view = now.view; left = left; ended = ended'; held = now.held }) e) (sym left) (subst (λ ended. Talked Streams start (record { view = now.view; left = now.left; ended = ended; held = now.held }) e) (sym ended) talked)
 
   pub read-ends : (talk' : TalkParts) (left' : Option (List ℕ)) (ended' : Bool) (e : TalkEnd) → talk.taken ≤ 2 ^ 62 → HoldsNoPart talk.standing.place talk.standing.waiting → Reads talk talk' now.left left' now.ended ended' (Ended e) → Talked Streams start (record { view = now.view; left = left'; ended = ended'; held = now.held }) e
-  read-ends talk' left' ended' end.Long most none reads = still left' ended' end.Long reads.0 reads.1 (ended-none end.Long most (none-left none) (λ rs h. h) (λ h. h) (sym so_far.count ∙ reads.2) refl)
-  read-ends talk' left' ended' end.ReadFault most none reads = still left' ended' end.ReadFault reads.0 reads.1 (ended-none end.ReadFault most (none-left none) (λ rs h. h) (λ h. h) tt refl)
+  read-ends talk' left' ended' end.Long most none reads = still left' ended' end.Long reads.0 reads.1 (ended-none end.Long most (none-left none) (λ rs h. h) (λ h. h) (sym so_far.count ∙ reads.2) refl tt)
+  read-ends talk' left' ended' end.ReadFault most none reads = still left' ended' end.ReadFault reads.0 reads.1 (ended-none end.ReadFault most (none-left none) (λ rs h. h) (λ h. h) tt refl tt)
   read-ends talk' left' ended' end.Closed most none reads = absurd reads
   read-ends talk' left' ended' end.Cut most none reads = absurd reads
   read-ends talk' left' ended' end.Bad most none reads = absurd reads
@@ -235,7 +283,9 @@ module _ (Streams : Option Refusal → Type 0) (start now : Moment) (talk : Talk
         given = front.given;
         reads = front.begin;
         closes = so_far.closes;
+        refusal = None;
         written = subst (λ held. Writes start.held held (turns_text so_far.turns)) (sym same) so_far.written;
+        refused = tt;
         cause = tt;
         left = tt;
         desk = desk.1;
@@ -313,7 +363,9 @@ module _ (Streams : Option Refusal → Type 0) (start now : Moment) (talk : Talk
           given = subst (λ gs. AreRequests gs all.requests) given-is all.given;
           reads = subst (λ b. RequestsOf IsBodyText Closes b all.requests []) bytes-same all.reads;
           closes = all_push ClosesBy so_far.turns t so_far.closes next.closes;
+          refusal = None;
           written = written-next writes;
+          refused = tt;
           cause = (refl, inr (so_far.turns, t, refl, closes));
           left = refl;
           desk = desk-next;
@@ -333,6 +385,8 @@ module _ (Streams : Option Refusal → Type 0) (start now : Moment) (talk : Talk
           given = subst (λ gs. AreRequests gs front.requests) given-is front.given;
           reads = subst (λ b. BeginWith b front.requests (reads.begun ++ s'.waiting)) bytes-same front.begin;
           closes = all_push ClosesBy so_far.turns t so_far.closes next.closes;
+          refusal = None;
+          refused = tt;
           written = subst (WritesPart start.held held) (sym (turns_text-push so_far.turns t)) (WritesPart-append start.held now.held held (turns_text so_far.turns) (answer_text t.closes t.answer) so_far.written part);
           cause = tt;
           left = refl;

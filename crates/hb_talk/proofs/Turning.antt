@@ -1,7 +1,7 @@
 -- What each part of a request makes of a talk.
-use Rattle.std.proofs.Common.{◌≡◌, ◌≤◌, ◌^◌, ℕ, Bool, List, [], ◌∷◌, true, ◌++◌, Option, Some, None, Result, Ok, Err, refl, sym, ap, subst, ◌∙◌}
+use Rattle.std.proofs.Common.{◌≡◌, ◌≤◌, ◌^◌, ℕ, Bool, List, [], ◌∷◌, true, ◌++◌, Option, Some, None, Result, Ok, Err, refl, sym, ap, subst, ◌∙◌, inl, inr}
 use Rattle.hb_http.specs.Parts.{EndsBody, Gives, GivesBody, HoldsNoPart, read_through}
-use Rattle.hb_http.specs.Readings.{Given, HasRead, ReadsOn}
+use Rattle.hb_http.specs.Readings.{Given, HasRead, IsBodyText, ReadsOn}
 use Rattle.hb_http.specs.Standing.{Standing}
 use Rattle.hb_http.specs.declared.parts.Head.{Head}
 use Rattle.hb_http.specs.declared.parts.HttpFault.{HttpFault}
@@ -13,15 +13,17 @@ use Rattle.hb_http.specs.declared.places.Place.TheVariants.{Between, Counted, Ch
 use Rattle.hb_desk.specs.Clause.{View}
 use Rattle.hb_desk.specs.declared.refusals.Refusal.{Refusal}
 use Rattle.hb_talk.specs.Comings.{ComesOf}
-use Rattle.hb_talk.specs.Progress.{Answered, Begins, Comes, Gathers, GoesOn, Grows, Progress, Reads, TalkParts, end_of}
-use Rattle.hb_talk.specs.Talks.{Moment, Talked}
+use Rattle.hb_talk.specs.Progress.{Answered, Begins, Comes, EndsBy, EndsFault, Gathers, GoesOn, Grows, Progress, Reads, TalkParts, fault_text}
+use Rattle.hb_http.specs.Requests.{HasNoRequest}
+use Rattle.hb_talk.specs.Talks.{Moment, RefusesRest, Talked}
 use Rattle.hb_talk.specs.Turns.{given_by}
 use Rattle.hb_talk.specs.Wanting.{keeps_body}
 use Rattle.hb_talk.specs.declared.coming.Coming.{Coming}
+use Rattle.hb_talk.specs.declared.ends.TalkEnd.{TalkEnd}
 use Rattle.hb_talk.specs.declared.ends.TalkEnd.TheVariants as end
 use Rattle.hb_talk.specs.declared.ends.Turned.{Turned}
 use Rattle.hb_talk.specs.declared.ends.Turned.TheVariants.{More, Ended}
-use Rattle.hb_talk.proofs.Talking.{answered-last, answered-on, answered-part, bad-ends, cut-ends, input-ends, long-ends, many-ends, memory-ends, memory-here, parted, read-ends, read-on}
+use Rattle.hb_talk.proofs.Talking.{answered-last, answered-on, answered-part, bad-rest, cut-ends, input-ends, long-rest, many-rest, memory-ends, memory-here, parted, read-ends, read-on, refused-ends, refused-part, rest}
 
 -- a body that grew by a piece is that of what was given of it
 comes-grown : (c c' : Coming) (g : Given) (piece : List ℕ) → Grows c c' piece → Comes (Some c) (Some g) → Comes (Some c') (Some (record { head = g.head; content = g.content ++ piece }))
@@ -132,9 +134,21 @@ module _ (Streams : Option Refusal → Type 0) (start now : Moment) (talk : Talk
   closed-turn s' gives = input-ends Streams start now talk so_far most gives.0 gives.1 gives.2 gives.3
 
   -- no part came
-  pub fault-turn : (f : HttpFault) (s' : Standing) → Gives talk.standing (Err f) s' → Talked Streams start now (end_of f)
-  fault-turn fault.Cut s' gives = cut-ends Streams start now talk so_far most gives.0 gives.1 gives.2
-  fault-turn fault.Memory s' gives = memory-here Streams start now talk so_far most
-  fault-turn fault.Bad s' gives = bad-ends Streams start now talk so_far most gives.0
-  fault-turn fault.TooManyHeaders s' gives = many-ends Streams start now talk so_far most gives.0 gives.1
-  fault-turn fault.HeadTooLong s' gives = long-ends Streams start now talk so_far most gives.0 gives.1
+  refused-by : (text : List ℕ) (held : Option (List ℕ)) (e : TalkEnd) → HasNoRequest IsBodyText (rest Streams start now talk so_far) → RefusesRest (rest Streams start now talk so_far) text → EndsBy text now.held held e → Talked Streams start (record { view = now.view; left = now.left; ended = now.ended; held = held }) e
+  refused-by text held end.Bad none refuses ends = refused-ends Streams start now talk so_far held text most none refuses ends
+  refused-by text held end.WriteFault none refuses ends = refused-part Streams start now talk so_far held text most refuses ends
+  refused-by text held end.Memory none refuses ends = subst (λ held. Talked Streams start (record { view = now.view; left = now.left; ended = now.ended; held = held }) end.Memory) (sym ends) (memory-here Streams start now talk so_far most)
+  refused-by text held end.Closed none refuses ends = absurd ends
+  refused-by text held end.Cut none refuses ends = absurd ends
+  refused-by text held end.Long none refuses ends = absurd ends
+  refused-by text held end.ReadFault none refuses ends = absurd ends
+
+  unanswered : (held : Option (List ℕ)) (e e' : TalkEnd) → e ≡ e' → held ≡ now.held → Talked Streams start now e' → Talked Streams start (record { view = now.view; left = now.left; ended = now.ended; held = held }) e
+  unanswered held e e' is same talked = subst (λ held. Talked Streams start (record { view = now.view; left = now.left; ended = now.ended; held = held }) e) (sym same) (subst (Talked Streams start now) (sym is) talked)
+
+  pub fault-turn : (f : HttpFault) (s' : Standing) (held : Option (List ℕ)) (e : TalkEnd) → Gives talk.standing (Err f) s' → EndsFault f now.held held e → Talked Streams start (record { view = now.view; left = now.left; ended = now.ended; held = held }) e
+  fault-turn fault.Cut s' held e gives ends = unanswered held e end.Cut ends.0 ends.1 (cut-ends Streams start now talk so_far most gives.0 gives.1 gives.2)
+  fault-turn fault.Memory s' held e gives ends = unanswered held e end.Memory ends.0 ends.1 (memory-here Streams start now talk so_far most)
+  fault-turn fault.Bad s' held e gives ends = let why = bad-rest Streams start now talk so_far gives.0 in refused-by (fault_text fault.Bad) held e why.0 (inl (why.1, refl)) ends
+  fault-turn fault.TooManyHeaders s' held e gives ends = let why = many-rest Streams start now talk so_far gives.0 gives.1 in refused-by (fault_text fault.TooManyHeaders) held e why.0 (inr (why.1, refl)) ends
+  fault-turn fault.HeadTooLong s' held e gives ends = let why = long-rest Streams start now talk so_far gives.0 gives.1 in refused-by (fault_text fault.HeadTooLong) held e why.0 (inr (why.1, refl)) ends

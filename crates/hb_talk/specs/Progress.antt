@@ -16,8 +16,9 @@ use Rattle.hb_desk.specs.Clause.{View}
 use Rattle.hb_desk.specs.Points.{Point}
 use Rattle.hb_desk.specs.declared.answers.Answer.{Answer}
 use Rattle.hb_desk.specs.declared.refusals.Refusal.{Refusal}
+use Rattle.hb_ops.specs.Errors.{error_answer}
 use Rattle.hb_talk.specs.Comings.{ComesOf}
-use Rattle.hb_talk.specs.Talks.{AtDesk, Moment, Talked}
+use Rattle.hb_talk.specs.Talks.{AtDesk, Moment, Talked, bad_head, long_head}
 use Rattle.hb_talk.specs.Texts.{answer_text}
 use Rattle.hb_talk.specs.Turns.{Answers, AnswersTo, ClosesBy, Turn, given_by, turns_text}
 use Rattle.hb_talk.specs.Wanting.{keeps_body}
@@ -120,11 +121,23 @@ Answered Streams start now held held' g (Ended Memory) = IfSome start.state (λ 
 Answered Streams start now held held' g (Ended end) = ⊥
 
 -- ---- its end
+-- what is answered to malformed bytes, and to a head above its limits
+abbrev pub fault_text : HttpFault → List ℕ
+fault_text fault.Bad = answer_text true (error_answer bad_head)
+fault_text other = answer_text true (error_answer long_head)
+
+-- how such an answer ends it
+abbrev pub EndsBy : List ℕ → Option (List ℕ) → Option (List ℕ) → TalkEnd → Type 0
+EndsBy text held held' Bad = Writes held held' text
+EndsBy text held held' WriteFault = WritesPart held held' text
+EndsBy text held held' Memory = held' ≡ held
+EndsBy text held held' end = ⊥
+
 -- how a fault of the bytes ends it
-abbrev pub end_of : HttpFault → TalkEnd
-end_of fault.Cut = Cut
-end_of fault.Memory = Memory
-end_of other = Bad
+abbrev pub EndsFault : HttpFault → Option (List ℕ) → Option (List ℕ) → TalkEnd → Type 0
+EndsFault fault.Cut held held' end = (end ≡ Cut) × (held' ≡ held)
+EndsFault fault.Memory held held' end = (end ≡ Memory) × (held' ≡ held)
+EndsFault f held held' end = EndsBy (fault_text f) held held' end
 
 abbrev pub is_between : Place → ℕ
 is_between Between = 0

@@ -1,5 +1,5 @@
 -- A talk over one connection: what was read, what was done at the desk, and what was written.
-use Rattle.std.specs.Prelude.{◌≡◌, ◌≢◌, ◌≤◌, ◌^◌, ◌⊎◌, ℕ, Bool, true, List, [], ◌∷◌, ◌++◌, length, Option, IfSome}
+use Rattle.std.specs.Prelude.{◌≡◌, ◌≢◌, ◌≤◌, ◌^◌, ◌⊎◌, ℕ, Bool, true, List, [], ◌∷◌, ◌++◌, length, Option, Some, None, IfSome, codes}
 use Rattle.std.specs.List.{AllByRecursion, flat_map}
 use Rattle.hb_outside.specs.Streams.{Gives, Writes, WritesPart}
 use Rattle.httparse.specs.Grammar.{RequestHead}
@@ -14,6 +14,8 @@ use Rattle.hb_desk.specs.Chains.{Chain}
 use Rattle.hb_desk.specs.Clause.{View}
 use Rattle.hb_desk.specs.Points.{Point}
 use Rattle.hb_desk.specs.declared.refusals.Refusal.{Refusal}
+use Rattle.hb_ops.specs.Errors.{ErrorForm, error_answer, plain}
+use Rattle.hb_talk.specs.Texts.{answer_text}
 use Rattle.hb_talk.specs.Turns.{Answers, ClosesBy, Turn, given_by, points_of, turns_text}
 use Rattle.hb_talk.specs.Wanting.{IsLast}
 use Rattle.hb_talk.specs.declared.ends.TalkEnd.{TalkEnd}
@@ -58,17 +60,43 @@ LastCloses turns = (before : List Turn) × (last : Turn) × (turns ≡ before ++
 abbrev pub IsBadBody : List ℕ → Type 0
 IsBadBody body = (front rest : List ℕ) × (body ≡ front ++ rest) × (place_after body_start front ≡ BadBody)
 
--- the bytes begin with no request that is read: malformed, above the limits of a head, or with a malformed body in chunks
-abbrev pub IsUnreadable : List ℕ → Type 0
-IsUnreadable bytes =
-    IsMalformed bytes ⊎ HasTooManyHeaders bytes ⊎ IsHeadTooLong bytes
-    ⊎ ((h : RequestHead) × (body : List ℕ) × IsHead bytes h body × IsChunked (headers_of h) × IsBadBody body)
+-- the bytes begin with no request, whatever follows: their head is malformed, or their body in chunks
+abbrev pub IsMalformedRest : List ℕ → Type 0
+IsMalformedRest bytes = IsMalformed bytes ⊎ ((h : RequestHead) × (body : List ℕ) × IsHead bytes h body × IsChunked (headers_of h) × IsBadBody body)
+
+-- their head is above its limits
+abbrev pub IsOverLimits : List ℕ → Type 0
+IsOverLimits bytes = HasTooManyHeaders bytes ⊎ IsHeadTooLong bytes
+
+-- 400 for malformed bytes, and 431 for a head above its limits (RFC 6585, section 5)
+abbrev pub bad_head : ErrorForm
+bad_head = plain 400 (codes "HEAD_INVALID")
+
+abbrev pub long_head : ErrorForm
+long_head = plain 431 (codes "HEAD_INVALID")
+
+-- what is answered to such a rest, behind which the connection closes
+abbrev pub RefusesRest : List ℕ → List ℕ → Type 0
+RefusesRest rest text =
+    (IsMalformedRest rest × (text ≡ answer_text true (error_answer bad_head))) ⊎ (IsOverLimits rest × (text ≡ answer_text true (error_answer long_head)))
+
+-- behind the answers only such a refusal is written, and it ends the talk
+abbrev pub HasRefusal : TalkEnd → List ℕ → Option (List ℕ) → Type 0
+HasRefusal Bad rest (Some text) = RefusesRest rest text
+HasRefusal WriteFault rest (Some text) = RefusesRest rest text
+HasRefusal Bad rest None = ⊥
+HasRefusal end rest None = Unit {0}
+HasRefusal end rest (Some text) = ⊥
+
+-- the answers, and then the refusal where there is one
+abbrev pub with_refusal : List ℕ → Option (List ℕ) → List ℕ
+with_refusal answers None = answers
+with_refusal answers (Some text) = answers ++ text
 
 -- why the talk ended
 abbrev pub HasCause : TalkEnd → Bool → List ℕ → List Turn → List ℕ → Type 0
 HasCause Closed ended taken turns rest = (rest ≡ []) × ((ended ≡ true) ⊎ LastCloses turns)
 HasCause Cut ended taken turns rest = (rest ≢ []) × (ended ≡ true)
-HasCause Bad ended taken turns rest = IsUnreadable rest
 HasCause Long ended taken turns rest = length taken ≡ 2 ^ 62
 HasCause end ended taken turns rest = Unit {0}
 
@@ -83,7 +111,7 @@ pub record AtDesk (Streams : Option Refusal → Type 0) (start now : View) (turn
   pub answers : AllByRecursion (Answers Streams start.told_bytes) turns
 
 -- What a talk has done: the bytes that it read are the requests of its turns and a rest, and what it wrote are the answers
--- of its turns.
+-- of its turns, and the refusal of a rest that is malformed or above the limits of a head.
 pub record Talked (Streams : Option Refusal → Type 0) (start now : Moment) (end : TalkEnd) : Type 0 where
   pub turns : List Turn
   pub requests : List Request
@@ -95,7 +123,9 @@ pub record Talked (Streams : Option Refusal → Type 0) (start now : Moment) (en
   pub given : AreRequests (given_by turns) requests
   pub reads : Reads end taken requests rest
   pub closes : AllByRecursion ClosesBy turns
-  pub written : Wrote end start.held now.held (turns_text turns)
+  pub refusal : Option (List ℕ)
+  pub written : Wrote end start.held now.held (with_refusal (turns_text turns) refusal)
+  pub refused : HasRefusal end rest refusal
   pub cause : HasCause end now.ended taken turns rest
   pub left : Unanswered end points
   pub desk : IfSome start.view.state (λ s. AtDesk Streams start.view now.view turns points)

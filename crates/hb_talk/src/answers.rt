@@ -3,7 +3,7 @@ ghost use Rattle.std.specs.Prelude.{◌≡◌, ◌≢◌, ◌++◌, ◌∷◌, [
 ghost use Rattle.hb_text.specs.Digests.{digest_of, digest_text};
 ghost use Rattle.hb_records.specs.declared.puts.PutAsk.{PutAsk as Put};
 ghost use Rattle.std.specs.declared.option.Option.{Option};
-ghost use Rattle.hb_ops.specs.Errors.{digest_item, error_answer, number_item};
+ghost use Rattle.hb_ops.specs.Errors.{digest_item, error_answer, number_item, plain};
 ghost use Rattle.hb_talk.specs.Tasks.{base, content, created, got_answer, location_of, manifest_error, route_error, too_long, unsupported, wrong_digest};
 ghost use Rattle.hb_upload.specs.Places.{Parcel};
 
@@ -45,6 +45,13 @@ pub(crate) fn too_long(alloc: Global) -> Result<Answer, Memory>
     ensures { IfOk result (λ a. a ≡ error_answer too_long) }
 {
     error(alloc, 413, b"SIZE_INVALID", Listed::new(alloc), None)
+}
+
+/// HEAD_INVALID, with this status: the bytes are malformed, or their head is above its limits.
+pub(crate) fn bad_head(alloc: Global, status: u16) -> Result<Answer, Memory>
+    ensures { IfOk result (λ a. a ≡ error_answer (plain status (codes "HEAD_INVALID"))) }
+{
+    error(alloc, status, b"HEAD_INVALID", Listed::new(alloc), None)
 }
 
 /// Why a request has no route: 404 UNSUPPORTED for an unknown path, 405 UNSUPPORTED for another method, and 400 for what is

@@ -1,16 +1,19 @@
 //! A talk over one connection.
-ghost use Rattle.std.specs.Prelude.{◌≡◌, ◌<◌, ◌≤◌, ◌^◌, [], length, true, None, Some, IfOk, IfSome, OnErr};
+ghost use Rattle.std.specs.Prelude.{◌≡◌, ◌<◌, ◌≤◌, ◌^◌, [], length, true, codes, None, Some, IfOk, IfSome, OnErr};
 ghost use Rattle.hb_outside.specs.Causes.{HasCause, Rose};
 ghost use Rattle.hb_http.specs.AnswerHeads.{HasPhrase};
 ghost use Rattle.hb_http.specs.Readings.{Given};
 ghost use Rattle.hb_http.specs.Standing.{fresh};
 ghost use Rattle.hb_http.specs.declared.TheConstants.{MAX_HEAD};
 ghost use Rattle.hb_desk.specs.Points.{IsStreamFault, Moves};
+ghost use Rattle.hb_ops.specs.Errors.{error_answer, plain};
 ghost use Rattle.hb_talk.specs.Comings.{ComesOf};
-ghost use Rattle.hb_talk.specs.Progress.{Answered, Begins, Came, Comes, Gathers, GoesOn, Progress, Reads, Served, end_of, work_left};
+ghost use Rattle.hb_talk.specs.Texts.{answer_text};
+ghost use Rattle.hb_talk.specs.Progress.{Answered, Begins, Came, Comes, EndsBy, EndsFault, Gathers, GoesOn, Progress, Reads, Served, work_left};
 ghost use Rattle.hb_talk.specs.Wanting.{keeps_body};
 ghost use Rattle.hb_talk.specs.Talks.{Moment, Talked, now_of};
 
+use crate::answers::bad_head;
 use crate::coming::Coming;
 use crate::ends::{TalkEnd, Turned};
 use crate::serving::serve;
@@ -54,14 +57,39 @@ impl Model for Connection {
     ghost invariant = { λ t. (vec_len t.piece ≡ 65536) × (t.taken ≤ 2 ^ 62) };
 }
 
-// How a fault of the bytes ends the talk.
-fn end_of(fault: HttpFault) -> TalkEnd
-    ensures { result ≡ end_of fault }
+// Writes an error, behind which the connection closes, and ends the talk as one of malformed bytes.
+fn refuse<O: Sink>(alloc: Global, out: &mut O, status: u16) -> TalkEnd
+    requires phrase { HasPhrase status }
+    ensures ends { EndsBy (answer_text true (error_answer (plain status (codes "HEAD_INVALID")))) (O.held out.old) (O.held out.new) result }
+    ensures later { O.faults out.old ≤ O.faults out.new }
+    ensures written { result ≡ TalkEnd.WriteFault → Rose (O.faults out.old) (O.faults out.new) }
+{
+    let Ok(answer) = bad_head(alloc, status) else {
+        return TalkEnd::Memory;
+    };
+    let Ok(text) = text_of(alloc, answer, true) else {
+        return TalkEnd::Memory;
+    };
+    match out.write(&text) {
+        Ok(()) => TalkEnd::Bad,
+        Err(_) => TalkEnd::WriteFault,
+    }
+}
+
+// Ends the talk where the bytes hold no further part: 400 HEAD_INVALID for malformed ones, and 431 HEAD_INVALID for a head
+// above its limits.
+fn end_by<O: Sink>(alloc: Global, out: &mut O, fault: HttpFault) -> TalkEnd
+    ensures ends { EndsFault fault (O.held out.old) (O.held out.new) result }
+    ensures later { O.faults out.old ≤ O.faults out.new }
+    ensures written { result ≡ TalkEnd.WriteFault → Rose (O.faults out.old) (O.faults out.new) }
+    ensures unread { ¬ (result ≡ TalkEnd.ReadFault) }
 {
     match fault {
         HttpFault::Cut => TalkEnd::Cut,
         HttpFault::Memory => TalkEnd::Memory,
-        HttpFault::Bad | HttpFault::TooManyHeaders | HttpFault::HeadTooLong => TalkEnd::Bad,
+        HttpFault::Bad => refuse(alloc, out, 400),
+        HttpFault::TooManyHeaders => refuse(alloc, out, 431),
+        HttpFault::HeadTooLong => refuse(alloc, out, 431),
     }
 }
 
@@ -239,7 +267,7 @@ impl Connection {
             Ok(Part::Body) => self.gather(),
             Ok(Part::BodyEnd) => self.answer(desk, clock, out),
             Ok(Part::InputEnd) => Turned::Ended(TalkEnd::Closed),
-            Err(fault) => Turned::Ended(end_of(fault)),
+            Err(fault) => Turned::Ended(end_by(self.alloc, out, fault)),
         }
     }
 

@@ -1,8 +1,7 @@
-use Rattle.std.proofs.Common.{Ok, ap, subst, sym}
+use Rattle.std.proofs.Common.{Ok, ap, subst}
 use Rattle.hb_http.specs.Parts.{Gives}
 use Rattle.hb_http.specs.Readings.{ReadsOn}
 use Rattle.hb_talk.specs.Progress.{Begins, Reads}
-use Rattle.hb_talk.specs.Talks.{Talked}
 use Rattle.hb_talk.specs.Turns.{given_by}
 use Rattle.hb_talk.proofs.Lessening.{less-head, less-input}
 use Rattle.hb_talk.proofs.Turning.{body-turn, closed-turn, end-turn, fault-turn, head-turn, input-turn}
@@ -63,4 +62,4 @@ returns-in-Ok-InputEnd-clause-talk g c = rw (← c.self.view_is) (λ start so_fa
 
 pub returns-in-Err-clause-talk : goal.returns-in-Err-clause-talk
 returns-in-Err-clause-talk g c = rw (← c.self.view_is) (λ start so_far.
-    subst (Talked _ start _) (sym c.end_of.ensures) (fault-turn _ start _ _ so_far c.self.invariant.1 c.in-Err.fault c.part.new.self c.in-Err.ensures.gives))
+    fault-turn _ start _ _ so_far c.self.invariant.1 c.in-Err.fault c.part.new.self (g.O.Sink.held c.end_by.new.out) c.end_by.result c.in-Err.ensures.gives c.end_by.ensures.ends)
