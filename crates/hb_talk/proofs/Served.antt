@@ -10,10 +10,10 @@ use Rattle.hb_desk.specs.declared.answers.Answer.{Answer}
 use Rattle.hb_desk.specs.declared.refusals.Refusal.{Refusal}
 use Rattle.hb_talk.specs.Driving.{Worked}
 use Rattle.hb_talk.specs.Progress.{Came, NextTurn, Reads, Served}
-use Rattle.hb_talk.specs.Tasks.{task_of}
-use Rattle.hb_talk.specs.Texts.{answer_text}
+use Rattle.hb_talk.specs.Tasks.{Task, task_of}
+use Rattle.hb_talk.specs.Texts.{answer_text, as_asked}
 use Rattle.hb_talk.specs.Turns.{AnswersTo, IsDone, Turn}
-use Rattle.hb_talk.specs.Wanting.{IsLast, Serves, keeps_body, media_of}
+use Rattle.hb_talk.specs.Wanting.{IsBare, IsLast, Serves, keeps_body, media_of}
 use Rattle.hb_talk.specs.declared.coming.Coming.{Coming}
 use Rattle.hb_talk.specs.declared.ends.Turned.TheVariants.{More}
 use Rattle.hb_talk.specs.declared.wanted.Wanted.{Wanted}
@@ -31,15 +31,27 @@ same-task (wanted.GetBlob name d) media body content same = refl
 same-task (wanted.PutManifest name r) media body content same = ap (task_of (wanted.PutManifest name r) media) (same refl)
 same-task (wanted.GetManifest name r) media body content same = refl
 
--- the task of what a request wants was done
-pub served-task : {E : Type 0} (Streams : Option Refusal → Type 0) (g : Given) (w : Wanted) (media : Option (List ℕ)) (body : List ℕ) (old new : View) (state : Option State) (result : Result Answer E) → Serves g.head w → media ≡ media_of g.head → (keeps_body w ≡ true → body ≡ g.content) → IfSome state (λ s. Worked Streams (task_of w media body) old new result) → IfSome state (λ s. Served Streams old new g result)
-served-task Streams g w media body old new None result serves media_is body_is worked = tt
-served-task Streams g w media body old new (Some s) (Err e) serves media_is body_is worked = record { points = worked.points; chain = worked.chain; answers = tt }
-served-task Streams g w media body old new (Some s) (Ok a) serves media_is body_is worked = record {
+-- the task of what a request wants was done, and its answer told as the request asks
+pub served-task : (E : Type 0) (Streams : Option Refusal → Type 0) (g : Given) (w : Wanted) (media : Option (List ℕ)) (body : List ℕ) (bare : Bool) (full : Answer) (old new : View) (state : Option State) → Serves g.head w → media ≡ media_of g.head → MatchBool bare (IsBare g.head) (¬ (IsBare g.head)) → (keeps_body w ≡ true → body ≡ g.content) → IfSome state (λ s. Worked {E = E} Streams (task_of w media body) old new (Ok full)) → IfSome state (λ s. Served {E = E} Streams old new g (Ok (as_asked bare full)))
+served-task E Streams g w media body bare full old new None serves media_is bare_is body_is worked = tt
+served-task E Streams g w media body bare full old new (Some s) serves media_is bare_is body_is worked = record {
   points = worked.points;
   chain = worked.chain;
-  answers = (worked.done.0, (w, serves, subst (λ task. IsDone Streams old.told_bytes task worked.points worked.done.0 a) (same-task w media body g.content body_is ∙ ap (λ media. task_of w media g.content) media_is) worked.done.1));
+  answers = (
+    worked.done.0,
+    (
+      w,
+      full,
+      serves,
+      subst (λ task. IsDone Streams old.told_bytes task worked.points worked.done.0 full) (same-task w media body g.content body_is ∙ ap (λ media. task_of w media g.content) media_is) worked.done.1,
+      (bare, bare_is, refl),
+    ),
+  );
 }
+
+pub unserved-task : {E : Type 0} (Streams : Option Refusal → Type 0) (g : Given) (task : Task) (old new : View) (state : Option State) (e : E) → IfSome state (λ s. Worked Streams task old new (Err e)) → IfSome state (λ s. Served Streams old new g (Err e))
+unserved-task Streams g task old new None e worked = tt
+unserved-task Streams g task old new (Some s) e worked = record { points = worked.points; chain = worked.chain; answers = tt }
 
 -- the events of a request that is left without its answer
 pub served-chain : {E : Type 0} (Streams : Option Refusal → Type 0) (old new : View) (g : Given) (state : Option State) (result : Result Answer E) → IfSome state (λ s. Served Streams old new g result) → IfSome state (λ s. (points : List Point) × Chain old points new)

@@ -28,7 +28,7 @@ use Rattle.hb_talk.proofs.Talking.{answered-last, answered-on, answered-part, ba
 -- a body that grew by a piece is that of what was given of it
 comes-grown : (c c' : Coming) (g : Given) (piece : List ℕ) → Grows c c' piece → Comes (Some c) (Some g) → Comes (Some c') (Some (record { head = g.head; content = g.content ++ piece }))
 comes-grown c c' g piece grows comes = (
-  subst (λ wanted. ComesOf wanted c'.media c'.last g.head) (sym grows.wanted) (subst (λ media. ComesOf c.wanted media c'.last g.head) (sym grows.media) (subst (λ last. ComesOf c.wanted c.media last g.head) (sym grows.last) comes.0)),
+  subst (λ wanted. ComesOf wanted c'.media c'.last c'.bare g.head) (sym grows.wanted) (subst (λ media. ComesOf c.wanted media c'.last c'.bare g.head) (sym grows.media) (subst (λ last. ComesOf c.wanted c.media last c'.bare g.head) (sym grows.last) (subst (λ bare. ComesOf c.wanted c.media c.last bare g.head) (sym grows.bare) comes.0))),
   λ kept. let was = subst (λ w. keeps_body w ≡ true) grows.wanted kept in grows.body was ∙ ap (λ b. b ++ piece) (comes.1 was),
 )
 

@@ -1,5 +1,5 @@
 -- What a head wants, by what is told of it.
-use Rattle.std.proofs.Common.{◌≡◌, ◌||◌, ⊎_elim, ℕ, Bool, true, false, Option, Some, None, MatchBool, not, refl, inl, inr, sym, ap, subst, ◌∙◌}
+use Rattle.std.proofs.Common.{◌≡◌, ◌||◌, ⊎_elim, ℕ, Bool, true, false, Option, Some, None, MatchBool, not, refl, inl, inr, sym, ap, subst, ◌∙◌, ◌↔◌, IsTrue, codes}
 use Rattle.httparse.specs.Grammar.{RequestHead}
 use Rattle.hb_http.specs.Framing.{asks_to_close}
 use Rattle.hb_http.specs.Headers.{headers_of}
@@ -7,7 +7,7 @@ use Rattle.hb_http.specs.Parts.{IsToldOf}
 use Rattle.hb_http.specs.declared.parts.Head.{Head}
 use Rattle.hb_http.proofs.FramingLaws.{HasLength-not_chunked, HasLength-unique}
 use Rattle.hb_talk.specs.Comings.{ComesOf}
-use Rattle.hb_talk.specs.Wanting.{IsLast, TellsLength, WantsBy, is_short}
+use Rattle.hb_talk.specs.Wanting.{IsBare, IsLast, TellsLength, WantsBy, is_short}
 use Rattle.hb_talk.specs.declared.wanted.Wanted.{Wanted}
 
 -- a head tells one length
@@ -27,9 +27,14 @@ module _ (h : RequestHead) (head : Head) (told : IsToldOf h head) where
       last
 
   -- the request that comes is that of the head
-  pub comes-of : (wanted : Wanted) (last : Bool) → last ≡ (head.close || not (is_short head.length)) → WantsBy head.length head.method head.target wanted → ComesOf wanted head.content_type last h
-  comes-of wanted last last_is wants = record {
+  bare-by : (bare : Bool) → IsTrue bare ↔ (head.method ≡ codes "HEAD") → MatchBool bare (IsBare h) (¬ (IsBare h))
+  bare-by true is = sym told.method ∙ is.0 refl
+  bare-by false is = λ asks. let both : false ≡ true = is.1 (told.method ∙ asks) in cc both
+
+  pub comes-of : (wanted : Wanted) (last bare : Bool) → IsTrue bare ↔ (head.method ≡ codes "HEAD") → last ≡ (head.close || not (is_short head.length)) → WantsBy head.length head.method head.target wanted → ComesOf wanted head.content_type last bare h
+  comes-of wanted last bare bare_is last_is wants = record {
     wants = (head.length, told.length, subst (λ m. WantsBy head.length m h.target wanted) told.method (subst (λ t. WantsBy head.length head.method t wanted) told.target wants));
     media = told.content_type;
     closes = subst (λ b. MatchBool b (IsLast h) (¬ (IsLast h))) (sym last_is) (closes-last head.close (is_short head.length) told.close refl);
+    bare = bare-by bare bare_is;
   }

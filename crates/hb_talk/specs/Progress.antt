@@ -39,7 +39,7 @@ abbrev pub Comes : Option Coming → Option Given → Type 0
 Comes None None = Unit {0}
 Comes None (Some g) = ⊥
 Comes (Some c) None = ⊥
-Comes (Some c) (Some g) = ComesOf c.wanted c.media c.last g.head × (keeps_body c.wanted ≡ true → c.body.items ≡ g.content)
+Comes (Some c) (Some g) = ComesOf c.wanted c.media c.last c.bare g.head × (keeps_body c.wanted ≡ true → c.body.items ≡ g.content)
 
 -- What a talk has done so far: these turns, none of which closed, and of the request that comes this was given.
 pub record Progress (Streams : Option Refusal → Type 0) (start now : Moment) (talk : TalkParts) : Type 0 where
@@ -64,7 +64,7 @@ GoesOn Streams start now talk (Ended end) = Talked Streams start now end
 
 -- ---- a head, and a piece of a body
 abbrev pub Begins : TalkParts → Head → TalkParts → Turned → Type 0
-Begins old head new More = (c : Coming) × (new ≡ record { standing = old.standing; coming = Some c; taken = old.taken }) × (c.body.items ≡ []) × ((h : RequestHead) → IsToldOf h head → ComesOf c.wanted c.media c.last h)
+Begins old head new More = (c : Coming) × (new ≡ record { standing = old.standing; coming = Some c; taken = old.taken }) × (c.body.items ≡ []) × ((h : RequestHead) → IsToldOf h head → ComesOf c.wanted c.media c.last c.bare h)
 Begins old head new (Ended Memory) = Unit {0}
 Begins old head new (Ended end) = ⊥
 
@@ -73,6 +73,7 @@ pub record Grows (c c' : Coming) (piece : List ℕ) : Type 0 where
   pub wanted : c'.wanted ≡ c.wanted
   pub media : c'.media ≡ c.media
   pub last : c'.last ≡ c.last
+  pub bare : c'.bare ≡ c.bare
   pub body : keeps_body c.wanted ≡ true → c'.body.items ≡ c.body.items ++ piece
 
 -- a piece comes behind a head alone

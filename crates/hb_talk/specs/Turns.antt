@@ -1,13 +1,14 @@
 -- The turns of a connection: each request with its answer, and with the events that decided it.
 use Rattle.std.specs.Prelude.{◌≡◌, ℕ, Bool, List, [], ◌∷◌, ◌++◌, map, Option, MatchBool}
 use Rattle.std.specs.List.{AllByRecursion, flat_map}
+use Rattle.httparse.specs.Grammar.{RequestHead}
 use Rattle.hb_http.specs.Readings.{Given}
 use Rattle.hb_desk.specs.Points.{Point}
 use Rattle.hb_desk.specs.declared.answers.Answer.{Answer}
 use Rattle.hb_desk.specs.declared.refusals.Refusal.{Refusal}
 use Rattle.hb_talk.specs.Tasks.{Makes, ReadsTrue, Task, answer_of, task_of}
-use Rattle.hb_talk.specs.Texts.{answer_text}
-use Rattle.hb_talk.specs.Wanting.{IsLast, Serves, media_of}
+use Rattle.hb_talk.specs.Texts.{answer_text, as_asked}
+use Rattle.hb_talk.specs.Wanting.{IsBare, IsLast, Serves, media_of}
 use Rattle.hb_talk.specs.declared.wanted.Wanted.{Wanted}
 
 -- A request by its head and its data, the points of its events, the newest first, what was read of the content that it
@@ -27,9 +28,13 @@ pub record IsDone (Streams : Option Refusal → Type 0) (told : Bool) (task : Ta
   pub reads : ReadsTrue told task points read
   pub streams : AllByRecursion (λ p. Streams p.fault) points
 
+-- a HEAD is answered without a body (RFC 9110, section 9.3.2)
+abbrev pub IsToldAs : RequestHead → Answer → Answer → Type 0
+IsToldAs h full answer = (bare : Bool) × MatchBool bare (IsBare h) (¬ (IsBare h)) × (answer ≡ as_asked bare full)
+
 -- the task of what the request wants was done
 abbrev pub AnswersTo : (Option Refusal → Type 0) → Bool → Given → List Point → List ℕ → Answer → Type 0
-AnswersTo Streams told g points read answer = (w : Wanted) × Serves g.head w × IsDone Streams told (task_of w (media_of g.head) g.content) points read answer
+AnswersTo Streams told g points read answer = (w : Wanted) × (full : Answer) × Serves g.head w × IsDone Streams told (task_of w (media_of g.head) g.content) points read full × IsToldAs g.head full answer
 
 abbrev pub Answers : (Option Refusal → Type 0) → Bool → Turn → Type 0
 Answers Streams told t = AnswersTo Streams told t.given t.points t.read t.answer

@@ -61,6 +61,10 @@ keeps_body w = true
 abbrev pub IsLast : RequestHead → Type 0
 IsLast h = (asks_to_close h ≡ true) ⊎ ((length : Option ℕ) × TellsLength h length × (is_short length ≡ false))
 
+-- it wants the head of an answer alone
+abbrev pub IsBare : RequestHead → Type 0
+IsBare h = h.method ≡ codes "HEAD"
+
 -- the value of its first Content-Type
 abbrev pub media_of : RequestHead → Option (List ℕ)
 media_of h = first_of (values_of (codes "content-type") (headers_of h))

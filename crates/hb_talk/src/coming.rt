@@ -1,5 +1,5 @@
 //! A request that comes: its head, and its body so far.
-ghost use Rattle.std.specs.Prelude.{◌≡◌, ◌++◌, [], true, IfOk, OnOk};
+ghost use Rattle.std.specs.Prelude.{◌≡◌, ◌↔◌, ◌++◌, [], true, codes, IfOk, IsTrue, OnOk};
 ghost use Rattle.httparse.specs.Grammar.{RequestHead};
 ghost use Rattle.hb_http.specs.Parts.{IsToldOf};
 ghost use Rattle.hb_talk.specs.Comings.{ComesOf};
@@ -20,28 +20,39 @@ pub(crate) struct Coming {
     pub(crate) media: Option<Text>,
     /// Whether the connection closes behind it.
     pub(crate) last: bool,
+    /// Whether its answer has no body.
+    pub(crate) bare: bool,
     /// Its body so far, where that is gathered.
     pub(crate) body: Vec<u8>,
+}
+
+// Whether a method asks for the head of an answer alone.
+fn is_bare(method: &Text) -> bool
+    ensures { IsTrue result ↔ (method.now ≡ codes "HEAD") }
+{
+    method.bytes() == b"HEAD".as_slice()
 }
 
 impl Coming {
     /// The request of a head. `Memory` comes where memory was wanting.
     pub(crate) fn of(alloc: Global, router: &Router, head: Head) -> Result<Coming, Memory>
-        ensures { IfOk result (λ c. (c.body.items ≡ []) × ((h : RequestHead) → IsToldOf h head → ComesOf c.wanted c.media c.last h)) }
+        ensures { IfOk result (λ c. (c.body.items ≡ []) × ((h : RequestHead) → IsToldOf h head → ComesOf c.wanted c.media c.last c.bare h)) }
     {
         let wanted = wants(alloc, router, &head)?;
+        let bare = is_bare(&head.method);
         let last = head.close || !is_short(head.length);
         Ok(Coming {
             wanted,
             media: head.content_type,
             last,
+            bare,
             body: Vec::new(alloc),
         })
     }
 
     /// Adds a piece of the body. `Memory` comes where memory was wanting.
     pub(crate) fn add(&mut self, piece: &[u8]) -> Result<(), Memory>
-        ensures same { (self.new.wanted ≡ self.old.wanted) × (self.new.media ≡ self.old.media) × (self.new.last ≡ self.old.last) }
+        ensures same { (self.new.wanted ≡ self.old.wanted) × (self.new.media ≡ self.old.media) × (self.new.last ≡ self.old.last) × (self.new.bare ≡ self.old.bare) }
         ensures body { OnOk result (keeps_body self.old.wanted ≡ true → self.new.body.items ≡ self.old.body.items ++ piece.now) }
     {
         if self.wanted.keeps_body() {

@@ -17,7 +17,7 @@ use crate::answers::bad_head;
 use crate::coming::Coming;
 use crate::ends::{TalkEnd, Turned};
 use crate::serving::serve;
-use crate::texts::text_of;
+use crate::texts::{as_asked, text_of};
 use hb_desk::{Answer, Desk};
 use hb_http::{Head, HttpFault, Part, Session};
 use hb_outside::{Clock, ReadFailed, Sink, Source};
@@ -100,7 +100,7 @@ fn answer_of<D: Desk, C: Clock>(
     clock: &mut C,
     coming: Coming,
 ) -> Result<Answer, Memory>
-    ensures served { (g : Given) → ComesOf coming.wanted coming.media coming.last g.head → (keeps_body coming.wanted ≡ true → coming.body.items ≡ g.content)
+    ensures served { (g : Given) → ComesOf coming.wanted coming.media coming.last coming.bare g.head → (keeps_body coming.wanted ≡ true → coming.body.items ≡ g.content)
         → IfSome (D.view desk.old).state (λ s. Served (IsStreamFault D.Stage D.Reader D.Stage.faults D.Reader.faults) (D.view desk.old) (D.view desk.new) g result) }
     ensures moves { Moves (D.view desk.old) (D.view desk.new) }
     ensures phrase { IfOk result (λ a. HasPhrase a.status) }
@@ -109,11 +109,15 @@ fn answer_of<D: Desk, C: Clock>(
         wanted,
         media,
         last: _,
+        bare,
         body,
     } = coming;
-    let answer = serve(alloc, desk, clock, wanted, &media, Text::of(body));
+    let served = serve(alloc, desk, clock, wanted, &media, Text::of(body));
     mem::drop(media);
-    answer
+    match served {
+        Ok(answer) => Ok(as_asked(answer, bare)),
+        Err(Memory) => Err(Memory),
+    }
 }
 
 // Reads at most so many bytes, and hands them to the session. None is the end of the input.

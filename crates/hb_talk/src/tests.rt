@@ -201,7 +201,7 @@ fn an_image_is_pushed_and_pulled(rt: HostRuntime) -> Result<(), Fail> {
 #[test]
 fn each_refusal_has_its_answer(rt: HostRuntime) -> Result<(), Fail> {
     let alloc = rt.alloc();
-    let cases: [(&[u8], &[u8]); 17] = [
+    let cases: [(&[u8], &[u8]); 18] = [
         // another digest than the body's
         (
             b"POST /v2/library/a/blobs/uploads/?digest=sha256%3Ae3b0c44298fc1c149afbf4c8996fb92427ae41e4649b934ca495991b7852b855 HTTP/1.1\r\nHost: r\r\nContent-Length: 3\r\n\r\nabc",
@@ -244,6 +244,11 @@ fn each_refusal_has_its_answer(rt: HostRuntime) -> Result<(), Fail> {
         (
             b"POST /harbor/jobs?kind=collect HTTP/1.1\r\nHost: r\r\nContent-Length: 3\r\n\r\nabc",
             UNSUPPORTED,
+        ),
+        // a HEAD, whose answer has no body
+        (
+            b"HEAD /v2/library/a/manifests/v1 HTTP/1.1\r\n\r\nGET /v2/ HTTP/1.1\r\n\r\n",
+            b"HTTP/1.1 404 Not Found\r\nContent-Length: 71\r\nContent-Type: application/json\r\n\r\nHTTP/1.1 200 OK\r\nContent-Length: 2\r\nContent-Type: application/json\r\n\r\n{}",
         ),
         // no path
         (b"GET /v3/ HTTP/1.1\r\n\r\n", UNSUPPORTED),

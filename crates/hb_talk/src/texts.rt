@@ -1,7 +1,7 @@
 //! The text of an answer.
 ghost use Rattle.std.specs.Prelude.{◌≡◌, ◌++◌, Some, None, [], IfOk, OnOk, length, unwrap_or};
 ghost use Rattle.hb_http.specs.AnswerHeads.{HasPhrase};
-ghost use Rattle.hb_talk.specs.Texts.{answer_text, length_of};
+ghost use Rattle.hb_talk.specs.Texts.{answer_text, as_asked, length_of};
 
 use hb_desk::Answer;
 use hb_http::{AnswerHead, write_head};
@@ -63,4 +63,19 @@ pub(crate) fn text_of(alloc: Global, answer: Answer, close: bool) -> Result<Vec<
     let mut text = Vec::from_slice(alloc, head.bytes())?;
     add_body(&mut text, &body)?;
     Ok(text)
+}
+
+/// The answer without its body, whose length is told, where that is asked for.
+pub(crate) fn as_asked(answer: Answer, bare: bool) -> Answer
+    ensures { result ≡ as_asked bare answer }
+{
+    if !bare {
+        return answer;
+    }
+    let length = length_said(&answer.body, answer.length);
+    Answer {
+        length,
+        body: None,
+        ..answer
+    }
 }

@@ -1,8 +1,16 @@
-use Rattle.std.proofs.Common.{◌∙◌}
-use Rattle.hb_talk.proofs.Served.{served-task}
+use Rattle.std.proofs.Common.{◌∙◌, IfSome, Ok, subst, sym}
+use Rattle.hb_base.specs.declared.memory.Memory.{Memory}
+use Rattle.hb_desk.specs.Points.{IsStreamFault}
+use Rattle.hb_talk.specs.Progress.{Served}
+use Rattle.hb_talk.proofs.Served.{served-task, unserved-task}
 use Rattle.hb_talk.proofs.talks.answer_of.Goals as goal
 
-pub returns-clause-served : goal.returns-clause-served
-returns-clause-served g c = λ given comes body.
-    served-task _ given c.args.coming.wanted c.args.coming.media c.of.result (g.D.Desk.view c.args.desk.now) (g.D.Desk.view c.serve-answer.new.desk) (g.D.Desk.view c.args.desk.now).state c.serve-answer.result
-    comes.wants comes.media (λ kept. c.of.ensures ∙ body kept) c.serve-answer.ensures.worked
+pub returns-in-Ok-clause-served : goal.returns-in-Ok-clause-served
+returns-in-Ok-clause-served g c = λ given comes body.
+    subst (λ a. IfSome (g.D.Desk.view c.args.desk.now).state (λ s. Served {E = Memory} (IsStreamFault g.row.D-Stage.Denot g.row.D-Reader.Denot g.D.Stage.Stage.faults g.D.Reader.Reader.faults) (g.D.Desk.view c.args.desk.now) (g.D.Desk.view c.serve-served.new.desk) given (Ok a))) (sym c.as_asked.ensures)
+    (served-task _ _ given c.args.coming.wanted c.args.coming.media c.of.result c.args.coming.bare c.in-Ok.answer (g.D.Desk.view c.args.desk.now) (g.D.Desk.view c.serve-served.new.desk) (g.D.Desk.view c.args.desk.now).state
+    comes.wants comes.media comes.bare (λ kept. c.of.ensures ∙ body kept) c.in-Ok.ensures.worked)
+
+pub returns-in-Err-clause-served : goal.returns-in-Err-clause-served
+returns-in-Err-clause-served g c = λ given comes body.
+    unserved-task _ given _ (g.D.Desk.view c.args.desk.now) (g.D.Desk.view c.serve-served.new.desk) (g.D.Desk.view c.args.desk.now).state _ c.in-Err.ensures.worked

@@ -10,4 +10,4 @@ returns c =
       | then-head w ↦ w.last-is ∙ (w.if-head.true ∙ sym (ap (λ b. b || not (is_short c.args.head.length)) w.if-head.true))
       | else-head w ↦ w.last-is ∙ (ap not w.is_short.ensures ∙ sym (ap (λ b. b || not (is_short c.args.head.length)) w.if-head.false))
     ] in
-    (c.new.ensures.items, λ h told. comes-of h c.args.head told c.in_ok-wanted.wanted c.if-head.last last c.in_ok-wanted.ensures)
+    (c.new.ensures.items, λ h told. comes-of h c.args.head told c.in_ok-wanted.wanted c.if-head.last c.is_bare-bare.result c.is_bare-bare.ensures last c.in_ok-wanted.ensures)

@@ -17,6 +17,7 @@ returns c = rw (← c.self.view_is) (
           wanted = c.add.ensures.same.0;
           media = c.add.ensures.same.1;
           last = c.add.ensures.same.2;
+          bare = c.add.ensures.same.3;
           body = λ kept. subst (λ piece. c.add.new.self.body.items ≡ c.in-Some.coming.body.items ++ piece) c.body.ensures (w.in-Ok.ensures.body kept);
         },
       )
