@@ -1,18 +1,14 @@
 -- What came of the operations of requests, and their answers.
-use Rattle.std.proofs.Common.{◌≡◌, ◌≢◌, ◌⊎◌, if◌then◌else◌, ℕ, Bool, true, false, List, [], Option, Some, None, Result, Ok, Err, IfOk, IfSome, codes, inl, inr, refl, sym, ap, subst, ◌∙◌}
+use Rattle.std.proofs.Common.{◌≡◌, ◌≢◌, ◌⊎◌, if◌then◌else◌, ℕ, true, false, List, [], Option, Some, None, Result, Ok, Err, IfOk, IfSome, codes, inl, inr, refl, sym, ap, subst, ◌∙◌}
 use Rattle.hb_text.specs.Digests.{digest_of}
 use Rattle.hb_text.specs.declared.digests.Digest.{Digest}
 use Rattle.hb_text.specs.declared.references.Reference.{Reference}
-use Rattle.hb_records.specs.declared.puts.PutAsk.{PutAsk}
 use Rattle.hb_http.specs.AnswerHeads.{HasPhrase}
 use Rattle.hb_desk.specs.Clause.{View}
 use Rattle.hb_desk.specs.Points.{Point}
 use Rattle.hb_desk.specs.State.{State}
 use Rattle.hb_desk.specs.declared.answers.Answer.{Answer}
 use Rattle.hb_desk.specs.declared.refusals.Refusal.{Refusal}
-use Rattle.hb_desk.specs.declared.refusals.Refusal.TheVariants as refusal
-use Rattle.hb_routes.specs.declared.faults.RouteFault.{RouteFault}
-use Rattle.hb_routes.specs.declared.faults.RouteFault.TheVariants as route
 use Rattle.hb_upload.specs.Deciding.{decided}
 use Rattle.hb_upload.specs.Phases.{is_ended, place_at}
 use Rattle.hb_upload.specs.Places.{Calls, Parcel, Stopped, place_of}
@@ -20,55 +16,21 @@ use Rattle.hb_upload.specs.Pushes.{PushParts, Went}
 use Rattle.hb_upload.specs.declared.phase.Phase.{Phase}
 use Rattle.hb_upload.specs.declared.phase.Phase.TheVariants as phase
 use Rattle.hb_upload.specs.declared.phase.Stop.{Stop}
-use Rattle.hb_upload.specs.declared.phase.Stop.TheVariants.{Pushed, WrongDigest, Refused}
-use Rattle.hb_ops.specs.Errors.{ErrorForm, error_answer, error_of, plain}
+use Rattle.hb_ops.specs.Errors.{ErrorForm, error_answer, plain}
 use Rattle.hb_ops.specs.Gets.{GetParts, HasDigest, LeadTo, PhaseFits as GetFits, Went as GetWent, decided as got_by, read_of}
 use Rattle.hb_ops.specs.declared.gets.Got.{Got}
-use Rattle.hb_ops.specs.declared.gets.Got.TheVariants as got
 use Rattle.hb_ops.specs.declared.gets.Phase.TheVariants as get
 use Rattle.hb_manifest.specs.Forms.{manifest_form}
-use Rattle.hb_manifest.specs.declared.manifests.Manifest.{Manifest}
 use Rattle.hb_manifest.specs.declared.manifests.ManifestFault.{ManifestFault}
 use Rattle.hb_manifest.specs.declared.manifests.ManifestFault.TheVariants as manifest
-use Rattle.hb_talk.specs.Driving.{Driven, IsPut, IsRefused, Worked, parcel_of}
-use Rattle.hb_talk.specs.Tasks.{Task, got_answer, location_of, manifest_error, manifest_task, names_other, push_answer, put_of, route_error, task_of, unsupported, wrong_digest}
+use Rattle.hb_talk.specs.Driving.{Driven, IsRefused, Worked}
+use Rattle.hb_talk.specs.Tasks.{Task, got_answer, location_of, manifest_error, manifest_task, names_other, push_answer, task_of, unsupported, wrong_digest}
 use Rattle.hb_talk.specs.Tasks.Task.{Pushes, Gets, Refuses, Tells}
 use Rattle.hb_talk.specs.declared.wanted.Wanted.{Wanted}
 use Rattle.hb_talk.specs.declared.wanted.Wanted.TheVariants as wanted
 use Rattle.hb_talk.specs.declared.wanted.Wanted.TheVariants.{PutManifest}
 
 -- ---- each status that is answered has a phrase
-pub refused-phrase : (t : ℕ) (r : Refusal) → HasPhrase (error_of t r).status
-refused-phrase t refusal.Memory = refl
-refused-phrase t refusal.Keeper = refl
-refused-phrase t refusal.Storage = refl
-refused-phrase t refusal.Spent = refl
-refused-phrase t refusal.NoProject = refl
-refused-phrase t refusal.NoRepo = refl
-refused-phrase t refusal.BlobUnknown = refl
-refused-phrase t refusal.UploadUnknown = refl
-refused-phrase t (refusal.Busy a) = refl
-refused-phrase t (refusal.OutOfOrder a) = refl
-refused-phrase t (refusal.MissingRef a) = refl
-refused-phrase t (refusal.MissingChild a) = refl
-refused-phrase t (refusal.Immutable a) = refl
-refused-phrase t (refusal.HasParent a) = refl
-refused-phrase t (refusal.OverLimit a b c) = refl
-refused-phrase t (refusal.Collecting a) = refl
-refused-phrase t (refusal.Raced a b) = refl
-refused-phrase t refusal.ManifestUnknown = refl
-refused-phrase t (refusal.Stale a) = refl
-refused-phrase t (refusal.Referenced a b) = refl
-refused-phrase t (refusal.Young a) = refl
-refused-phrase t refusal.JobUnknown = refl
-refused-phrase t (refusal.JobHeld a) = refl
-refused-phrase t refusal.NotSent = refl
-refused-phrase t refusal.NotPlaced = refl
-refused-phrase t refusal.Tagged = refl
-refused-phrase t refusal.Unfinished = refl
-refused-phrase t refusal.JobDone = refl
-refused-phrase t (refusal.Late a) = refl
-refused-phrase t refusal.Sent = refl
 
 -- a fault without a detail
 pub plain-manifest : (fault : ManifestFault) → (fault ≡ manifest.MediaUnknown) ⊎ ((fault ≡ manifest.NotJson) ⊎ ((fault ≡ manifest.NoSchema) ⊎ (fault ≡ manifest.TooMany))) → manifest_error fault ≡ plain 400 (codes "MANIFEST_INVALID")
@@ -86,19 +48,7 @@ manifest-phrase manifest.NotJson = refl
 manifest-phrase manifest.NoSchema = refl
 manifest-phrase manifest.TooMany = refl
 
-pub push-phrase : (b : Parcel) (stop : Stop) → HasPhrase (push_answer b stop).status
-push-phrase b Pushed = refl
-push-phrase b (WrongDigest found) = refl
-push-phrase b (Refused r t) = refused-phrase t r
-
-pub got-phrase : (x : Got) → HasPhrase (got_answer x).status
-got-phrase (got.Content d media bytes) = refl
-got-phrase (got.Refused r t) = refused-phrase t r
-
 -- ---- a task without an event
-pub worked-none : {E : Type 0} (Streams : Option Refusal → Type 0) (task : Task) (v : View) (state : Option State) (e : E) → IfSome state (λ s. Worked Streams task v v (Err e))
-worked-none Streams task v None e = tt
-worked-none Streams task v (Some s) e = record { points = []; chain = refl; done = tt }
 
 pub refused-worked : {E : Type 0} (Streams : Option Refusal → Type 0) (error : ErrorForm) (v : View) (state : Option State) (result : Result Answer E) → IfOk result (λ a. a ≡ error_answer error) → IfSome state (λ s. Worked Streams (Refuses error) v v result)
 refused-worked Streams error v None result is = tt
@@ -110,47 +60,15 @@ told-worked Streams answer v None result is = tt
 told-worked Streams answer v (Some s) (Err e) is = record { points = []; chain = refl; done = tt }
 told-worked Streams answer v (Some s) (Ok a) is = record { points = []; chain = refl; done = ([], record { makes = refl; answers = is; reads = tt; streams = tt }) }
 
-pub route-phrase : (fault : RouteFault) → HasPhrase (route_error fault).status
-route-phrase route.Unknown = refl
-route-phrase route.MethodUnknown = refl
-route-phrase route.NameInvalid = refl
-route-phrase route.TagInvalid = refl
-route-phrase route.DigestInvalid = refl
-route-phrase route.Memory = refl
-
 -- ---- a manifest that was read
-module _ (name : List ℕ) (r : Reference) (media : Option (List ℕ)) (body : List ℕ) (found : Digest) (found_is : found ≡ digest_of body) where
-  by_reference : Bool → Task
-  by_reference b = if b then Refuses (wrong_digest (digest_of body)) else manifest_task name r body (manifest_form media body)
-
-  decided-by : (b : Bool) → names_other r found ≡ b → task_of (PutManifest name r) media body ≡ by_reference b
-  unfolding by_reference
-  decided-by b is = ap (λ b. if b then Refuses (wrong_digest (digest_of body)) else manifest_task name r body (manifest_form media body)) (ap (names_other r) (sym found_is) ∙ is)
-
-  pub refused-other : (a : Answer) → names_other r found ≡ true → a ≡ error_answer (wrong_digest found) → IsRefused (task_of (PutManifest name r) media body) a
-  unfolding by_reference
-  refused-other a other is = record {
-    error = wrong_digest found;
-    task_is = decided-by true other ∙ ap (λ d. Refuses (wrong_digest d)) (sym found_is);
-    answer_is = is;
-    phrase = subst (λ a. HasPhrase a.status) (sym is) refl;
-  }
-
-  pub refused-form : (a : Answer) (fault : ManifestFault) → names_other r found ≡ false → (fault ≢ manifest.Memory → manifest_form media body ≡ Err fault) → (fault ≢ manifest.Memory) × (a ≡ error_answer (manifest_error fault)) → IsRefused (task_of (PutManifest name r) media body) a
-  unfolding by_reference
-  refused-form a fault same form is = record {
-    error = manifest_error fault;
-    task_is = decided-by false same ∙ ap (manifest_task name r body) (form is.0);
-    answer_is = is.1;
-    phrase = subst (λ a. HasPhrase a.status) (sym is.1) (manifest-phrase fault);
-  }
-
-  pub pushes-read : (put : PutAsk) (m : Manifest) → names_other r found ≡ false → manifest_form media body ≡ Ok m → put ≡ put_of name r body m → IsPut body put × (task_of (PutManifest name r) media body ≡ Pushes (parcel_of put body))
-  unfolding by_reference
-  pushes-read put m same form is = (
-    record { digest = ap (λ p. p.digest) is; size = ap (λ p. p.size) is },
-    decided-by false same ∙ (ap (manifest_task name r body) form ∙ ap (λ p. Pushes (parcel_of p body)) (sym is)),
-  )
+-- where the reference isn't another digest, the form of the body decides
+pub refused-form : (name : List ℕ) (r : Reference) (media : Option (List ℕ)) (body : List ℕ) (found : Digest) (a : Answer) (fault : ManifestFault) → found ≡ digest_of body → names_other r found ≡ false → (fault ≢ manifest.Memory → manifest_form media body ≡ Err fault) → (fault ≢ manifest.Memory) × (a ≡ error_answer (manifest_error fault)) → IsRefused (task_of (PutManifest name r) media body) a
+refused-form name r media body found a fault found_is same form is = record {
+  error = manifest_error fault;
+  task_is = ap (λ b. if b then Refuses (wrong_digest (digest_of body)) else manifest_task name r body (manifest_form media body)) (ap (names_other r) (sym found_is) ∙ same) ∙ ap (manifest_task name r body) (form is.0);
+  answer_is = is.1;
+  phrase = subst (λ a. HasPhrase a.status) (sym is.1) (manifest-phrase fault);
+}
 
 -- the task that is pushed is the manifest's
 pub as-task : {E : Type 0} (Streams : Option Refusal → Type 0) (task task' : Task) (old new : View) (state : Option State) (result : Result Answer E) → task ≡ task' → IfSome state (λ s. Worked Streams task' old new result) → IfSome state (λ s. Worked Streams task old new result)
@@ -198,10 +116,6 @@ push-worked Streams begun push old new (Some s) stop (Ok a) driven ended is answ
 pub answer-for : {E : Type 0} (b : Parcel) (stop : Stop) (digest : Digest) (location : List ℕ) (result : Result Answer E) → location ≡ location_of b → b.digest ≡ digest → IfOk result (λ a. (b : Parcel) → location ≡ location_of b → b.digest ≡ digest → a ≡ push_answer b stop) → IfOk result (λ a. a ≡ push_answer b stop)
 answer-for b stop digest location (Err e) at is answers = tt
 answer-for b stop digest location (Ok a) at is answers = answers b at is
-
-pub phrase-for : {E : Type 0} (x : Answer) (result : Result Answer E) → IfOk result (λ a. a ≡ x) → HasPhrase x.status → IfOk result (λ a. HasPhrase a.status)
-phrase-for x (Err e) is has = tt
-phrase-for x (Ok a) is has = subst (λ a. HasPhrase a.status) (sym is) has
 
 -- both a cause and a clause of what is Ok
 pub ok-both : {T E P : Type 0} (Q : T → Type 0) (result : Result T E) → P → IfOk result Q → IfOk result (λ x. P × Q x)

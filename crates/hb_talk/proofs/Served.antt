@@ -1,7 +1,6 @@
 -- What was answered to a request that has come.
-use Rattle.std.proofs.Common.{◌≡◌, ◌<◌, ◌+◌, ℕ, Bool, true, List, [], ◌++◌, Option, Some, None, Result, Ok, Err, IfSome, MatchBool, refl, sym, ap, subst, ◌∙◌, inl, inr, arith}
+use Rattle.std.proofs.Common.{◌≡◌, ℕ, Bool, true, List, [], Option, Some, None, Result, Ok, Err, IfSome, MatchBool, refl, sym, ap, subst, ◌∙◌}
 use Rattle.hb_http.specs.Readings.{Given}
-use Rattle.hb_http.specs.Standing.{Standing}
 use Rattle.hb_desk.specs.Chains.{Chain}
 use Rattle.hb_desk.specs.Clause.{View}
 use Rattle.hb_desk.specs.Points.{Point}
@@ -9,13 +8,11 @@ use Rattle.hb_desk.specs.State.{State}
 use Rattle.hb_desk.specs.declared.answers.Answer.{Answer}
 use Rattle.hb_desk.specs.declared.refusals.Refusal.{Refusal}
 use Rattle.hb_talk.specs.Driving.{Worked}
-use Rattle.hb_talk.specs.Progress.{Came, NextTurn, Reads, Served}
+use Rattle.hb_talk.specs.Progress.{NextTurn, Served}
 use Rattle.hb_talk.specs.Tasks.{Task, task_of}
 use Rattle.hb_talk.specs.Texts.{answer_text, as_asked}
 use Rattle.hb_talk.specs.Turns.{AnswersTo, IsDone, Turn}
 use Rattle.hb_talk.specs.Wanting.{IsBare, IsLast, Serves, keeps_body, media_of}
-use Rattle.hb_talk.specs.declared.coming.Coming.{Coming}
-use Rattle.hb_talk.specs.declared.ends.Turned.TheVariants.{More}
 use Rattle.hb_talk.specs.declared.wanted.Wanted.{Wanted}
 use Rattle.hb_talk.specs.declared.wanted.Wanted.TheVariants as wanted
 
@@ -87,9 +84,3 @@ pub turn-text : (Wrote : List ℕ → Type 0) (t : Turn) (closes : Bool) (answer
 turn-text Wrote t closes answer text closes_is answer_is is wrote = subst Wrote (is ∙ (ap (λ b. answer_text b answer) (sym closes_is) ∙ ap (answer_text t.closes) (sym answer_is))) wrote
 
 -- ---- a read
-pub came-reads : (s s' : Standing) (coming : Option Coming) (taken n : ℕ) (left rest : Option (List ℕ)) (ended ended' : Bool) → Came s s' left rest ended ended' n → Reads (record { standing = s; coming = coming; taken = taken }) (record { standing = s'; coming = coming; taken = taken + n }) left rest ended ended' More
-came-reads s s' coming taken n left rest ended ended' (inl closed) = inl (closed.1, closed.2, ap (λ (s : Standing). record { standing = s; coming = coming; taken = taken + n }) closed.3 ∙ ap (λ k. record { standing = record { place = s.place; body = s.body; waiting = s.waiting; closed = true }; coming = coming; taken = k }) (none closed.0))
-  where
-    none : n ≡ 0 → taken + n ≡ taken
-    none is = omega (arith, is)
-came-reads s s' coming taken n left rest ended ended' (inr came) = inr (came.0, subst (λ n. 0 < n) (sym came.1) came.2, came.3, came.4, ap (λ (s : Standing). record { standing = s; coming = coming; taken = taken + n }) came.5 ∙ ap (λ n. record { standing = record { place = s.place; body = s.body; waiting = s.waiting ++ came.0; closed = s.closed }; coming = coming; taken = taken + n }) (sym came.1))

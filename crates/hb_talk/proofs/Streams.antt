@@ -1,6 +1,6 @@
 -- What is taken and written piece by piece.
 use Rattle.std.proofs.Common.{◌+◌, ℕ, List, [], ◌++◌, length, take, Option, Some, None, option_map, refl, sym, ap, subst, ◌∙◌, append_assoc, append-nil}
-use Rattle.std.proofs.Math.Seq.{take-append-add, take-append_seam}
+use Rattle.std.proofs.Math.Seq.{take-append-add}
 use Rattle.hb_outside.specs.Streams.{Gives, Writes, WritesPart}
 
 pub Gives-append : (a b c : Option (List ℕ)) (xs ys : List ℕ) → Gives a b xs → Gives b c ys → Gives a c (xs ++ ys)
@@ -24,7 +24,3 @@ Writes-none (Some bytes) = ap Some (sym (append-nil bytes))
 -- all of a text and a part of the next are a part of both
 pub WritesPart-append : (a b c : Option (List ℕ)) (xs ys : List ℕ) → Writes a b xs → WritesPart b c ys → WritesPart a c (xs ++ ys)
 WritesPart-append a b c xs ys first part = (length xs + part.0, subst (λ text. Writes a c text) (sym (take-append-add xs ys part.0)) (Writes-append a b c xs (take part.0 ys) first part.1))
-
--- a text that was written is a part of what was to be written
-pub WritesPart-front : (a b : Option (List ℕ)) (xs ys : List ℕ) → Writes a b xs → WritesPart a b (xs ++ ys)
-WritesPart-front a b xs ys written = (length xs, subst (λ text. Writes a b text) (sym (take-append_seam xs ys)) written)
