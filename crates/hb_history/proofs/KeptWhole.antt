@@ -1,4 +1,4 @@
--- An entry by which a project gets content that is held keeps the registry whole.
+-- An entry by which a project gets content that is held, or touches it, keeps the registry whole.
 use Rattle.std.proofs.Common.{◌≡◌, ◌≤◌, ◌<◌, ℕ, Bool, true, false, cond, ◌||◌, List, [], ◌∷◌, ◌++◌, length, Option, Some, None, option_map, is_some, Contains, IsTrue, IsSome, count_by, nat_eq, refl, sym, ap, subst, ◌∙◌, arith}
 use Rattle.std.specs.List.{AllByRecursion, filter, flat_map}
 use Rattle.std.specs.Ordering.{is_eq}
@@ -15,7 +15,7 @@ use Rattle.hb_records.specs.Entries.{AuditEntry}
 use Rattle.hb_records.specs.Orders.{NamedDigest, named_digest_cmp}
 use Rattle.hb_records.proofs.KeyOrders.{named_digest_cmp-order}
 use Rattle.hb_records.specs.declared.entries.EntryKind.{EntryKind}
-use Rattle.hb_records.specs.declared.entries.EntryKind.TheVariants.{Associated, ArtifactPut}
+use Rattle.hb_records.specs.declared.entries.EntryKind.TheVariants.{Associated, Touched, ArtifactPut}
 use Rattle.hb_records.specs.declared.notes.Notes.{Notes}
 use Rattle.hb_records.specs.declared.notes.Placement.{Placement}
 use Rattle.hb_records.specs.declared.notes.Sealed.{Sealed}
@@ -35,34 +35,42 @@ use Rattle.hb_model.specs.Sound.{OneLength, HasLength}
 use Rattle.hb_model.specs.Whole.{IsWhole, IsKept, MayLapse, HaveLengths, is_last_move}
 use Rattle.hb_model.proofs.EntrySteps.{All-weaker, present-older, size-older, last_kind-older}
 use Rattle.hb_model.proofs.WholeSteps.{may_lapse-step, sighted-step, sealed-step}
-use Rattle.hb_history.specs.Associating.{Associates, FewerPlacements}
+use Rattle.hb_history.specs.Naming.{Names, FewerPlacements}
 use Rattle.hb_history.proofs.FoundRows.{all_found}
 use Rattle.hb_history.proofs.PairSteps.{pair-step, pair_after, kept_or, pair_item, same_pair, stored-step, stored_after, stored_item}
 use Rattle.hb_history.proofs.PairTables.{pairs-rise}
 use Rattle.hb_history.proofs.Settled.{exact-digest, named-pair, settled}
 
 -- ---- what such an entry does
-pub untaken : (kind : EntryKind) (d : Digest) (s : ℕ) (q : Digest) → Associates kind d s → takes_digest q kind ≡ false
+pub untaken : (kind : EntryKind) (d : Digest) (s : ℕ) (q : Digest) → Names kind d s → takes_digest q kind ≡ false
 untaken (Associated project digest size) d s q h = refl
+untaken (Touched project digest) d s q h = refl
 untaken (ArtifactPut name digest size media refs children tag) d s q h = refl
 untaken _ d s q h = absurd h
 
-pub uncollected : (kind : EntryKind) (d : Digest) (s : ℕ) (q : Digest) → Associates kind d s → collects q kind ≡ false
+pub uncollected : (kind : EntryKind) (d : Digest) (s : ℕ) (q : Digest) → Names kind d s → collects q kind ≡ false
 uncollected (Associated project digest size) d s q h = refl
+uncollected (Touched project digest) d s q h = refl
 uncollected (ArtifactPut name digest size media refs children tag) d s q h = refl
 uncollected _ d s q h = absurd h
 
 -- what it stores is its digest
-stored-is : (kind : EntryKind) (d : Digest) (s : ℕ) (q : Digest) → Associates kind d s → stores q kind ≡ true → q ≡ d
+stored-is : (kind : EntryKind) (d : Digest) (s : ℕ) (q : Digest) → Names kind d s → stores q kind ≡ true → q ≡ d
 stored-is (Associated project digest size) d s q h e = exact-digest q digest e ∙ h.0
+stored-is (Touched project digest) d s q h e = cc e
 stored-is (ArtifactPut name digest size media refs children tag) d s q h e = exact-digest q digest e ∙ h.0
 stored-is _ d s q h e = absurd h
 
 -- what it moves it stores or touches
-moved-by : (kind : EntryKind) (d : Digest) (s : ℕ) (q : Digest) → Associates kind d s → moves q kind ≡ true → (stores q kind || touches q kind) ≡ true
+moved-by : (kind : EntryKind) (d : Digest) (s : ℕ) (q : Digest) → Names kind d s → moves q kind ≡ true → (stores q kind || touches q kind) ≡ true
 moved-by (Associated project digest size) d s q h e = two (same_digest q digest) e
   where
     two : (a : Bool) → (a || false || false || false || false) ≡ true → (a || false) ≡ true
+    two true e = refl
+    two false e = e
+moved-by (Touched project digest) d s q h e = two (same_digest q digest) e
+  where
+    two : (f : Bool) → (false || false || false || f || false) ≡ true → (false || f) ≡ true
     two true e = refl
     two false e = e
 moved-by (ArtifactPut name digest size media refs children tag) d s q h e = two (same_digest q digest) (touches q (ArtifactPut name digest size media refs children tag)) e
@@ -74,7 +82,7 @@ moved-by (ArtifactPut name digest size media refs children tag) d s q h e = two 
 moved-by _ d s q h e = absurd h
 
 -- ---- after it
-module _ (rows : Tables) (n m : Notes) (c : Contents) (t : ℕ) (e : AuditEntry) (d : Digest) (s : ℕ) (h : IsWhole rows n c t) (legal : Legal rows.audit e) (is : Associates e.kind d s) (kept : IsKept c d) where
+module _ (rows : Tables) (n m : Notes) (c : Contents) (t : ℕ) (e : AuditEntry) (d : Digest) (s : ℕ) (h : IsWhole rows n c t) (legal : Legal rows.audit e) (is : Names e.kind d s) (kept : IsKept c d) where
   kept-stored : (q : Digest) → stores q e.kind ≡ true → IsKept c q
   kept-stored q stored = subst (IsKept c) (sym (stored-is e.kind d s q is stored)) kept
 
@@ -123,12 +131,13 @@ kept-some new None = refl
 kept-some new (Some x) = refl
 
 -- a pair that is there stays
-pair-stays : (p : List ℕ) (q : Digest) (kind : EntryKind) (d : Digest) (s : ℕ) (x : Option PairItem) → Associates kind d s → IsSome x → IsSome (pair_after p q kind x)
+pair-stays : (p : List ℕ) (q : Digest) (kind : EntryKind) (d : Digest) (s : ℕ) (x : Option PairItem) → Names kind d s → IsSome x → IsSome (pair_after p q kind x)
 pair-stays p q (Associated project digest size) d s x is there = either (same_pair p q project digest)
   where
     either : (b : Bool) → IsSome (cond b (kept_or (pair_item project digest size) x) x)
     either true = kept-some (pair_item project digest size) x
     either false = there
+pair-stays p q (Touched project digest) d s x is there = there
 pair-stays p q (ArtifactPut name digest size media refs children tag) d s x is there = either (same_pair p q (project_of name) digest)
   where
     either : (b : Bool) → IsSome (cond b (kept_or (pair_item (project_of name) digest size) x) x)
@@ -214,11 +223,12 @@ pub itself-pair : (p : List ℕ) (q : Digest) → same_pair p q p q ≡ true
 itself-pair p q = ap is_eq (tied_itself named_digest_cmp-order.total (p, q))
 
 -- a project has what its artifacts need
-needed-after : (P : Digest → Type 0) (p : List ℕ) (n moment : ℕ) (kind : EntryKind) (m : Registry) (d : Digest) (s : ℕ) → Associates kind d s
+needed-after : (P : Digest → Type 0) (p : List ℕ) (n moment : ℕ) (kind : EntryKind) (m : Registry) (d : Digest) (s : ℕ) → Names kind d s
     → ((project : List ℕ) (q : Digest) → p ≡ project → IsSome (pair_after project q kind (pair_in m project q)) → P q)
     → ((name : List ℕ) (digest : Digest) (size : ℕ) (media : List ℕ) (refs children : List Digest) (tag : Option (List ℕ)) → kind ≡ ArtifactPut name digest size media refs children tag → p ≡ project_of name → AllByRecursion P refs)
     → AllByRecursion P (needed m p) → AllByRecursion P (needed (step n moment kind m) p)
 needed-after P p n moment (Associated project digest size) m d s is own refs_there h = h
+needed-after P p n moment (Touched project digest) m d s is own refs_there h = h
 needed-after P p n moment (ArtifactPut name digest size media refs children tag) m d s is own refs_there h =
     fed-all P p (artifacts_with moment name digest size media refs children (artifact_in m name digest) m.artifacts)
     (fed-put P p moment name digest size media refs children (artifact_in m name digest) m.artifacts
@@ -233,12 +243,13 @@ needed-after P p n moment _ m d s is own refs_there h = absurd is
 same-itself : (d digest : Digest) → digest ≡ d → same_digest d digest ≡ true
 same-itself d digest e = ap (λ q. is_eq (digest_cmp d q)) e ∙ ap is_eq (tied_itself digest_cmp-order.total d)
 
-stored-size : (kind : EntryKind) (d : Digest) (s : ℕ) (x : Option StoredItem) → Associates kind d s → stored_after d kind x ≡ Some (stored_item d s)
-stored-size (Associated project digest size) d s x is = ap (λ b. cond b (Some (stored_item digest size)) x) (same-itself d digest is.0) ∙ λ i. Some (stored_item (is.0 i) (is.1 i))
-stored-size (ArtifactPut name digest size media refs children tag) d s x is = ap (λ b. cond b (Some (stored_item digest size)) x) (same-itself d digest is.0) ∙ λ i. Some (stored_item (is.0 i) (is.1 i))
-stored-size _ d s x is = absurd is
+stored-size : (kind : EntryKind) (d : Digest) (s : ℕ) (x : Option StoredItem) → Names kind d s → stores d kind ≡ true → stored_after d kind x ≡ Some (stored_item d s)
+stored-size (Associated project digest size) d s x is stored = ap (λ b. cond b (Some (stored_item digest size)) x) (same-itself d digest is.0) ∙ λ i. Some (stored_item (is.0 i) (is.1 i))
+stored-size (Touched project digest) d s x is stored = cc stored
+stored-size (ArtifactPut name digest size media refs children tag) d s x is stored = ap (λ b. cond b (Some (stored_item digest size)) x) (same-itself d digest is.0) ∙ λ i. Some (stored_item (is.0 i) (is.1 i))
+stored-size _ d s x is stored = absurd is
 
-lengths-after : (rows : Tables) (n m : Notes) (c : Contents) (e : AuditEntry) (d : Digest) (s : ℕ) → Associates e.kind d s → HasLength c d s → FewerPlacements n m → HaveLengths rows.audit n c → HaveLengths (e ∷ rows.audit) m c
+lengths-after : (rows : Tables) (n m : Notes) (c : Contents) (e : AuditEntry) (d : Digest) (s : ℕ) → Names e.kind d s → HasLength c d s → FewerPlacements n m → HaveLengths rows.audit n c → HaveLengths (e ∷ rows.audit) m c
 lengths-after rows n m c e d s is sized fewer h = record {
   present = λ q size here of. either q size here of (stores q e.kind) refl;
   placed = subst (AllByRecursion (λ (x : Placement). x.gone ≡ 0 → HasLength c x.digest x.size)) (sym fewer.placements) (all-filter (λ (x : Placement). x.gone ≡ 0 → HasLength c x.digest x.size) fewer.test n.placements h.placed);
@@ -248,17 +259,17 @@ lengths-after rows n m c e d s is sized fewer h = record {
     either : (q : Digest) (size : ℕ) → IsTrue (present (e ∷ rows.audit) q) → size_of (e ∷ rows.audit) q ≡ Some size → (b : Bool) → stores q e.kind ≡ b → HasLength c q size
     either q size here of true stored =
         let same = stored-is e.kind d s q is stored in
-        let found : Some s ≡ Some size = sym (ap (option_map (λ (x : StoredItem). x.size)) (stored-step d e.number e.moment e.kind (replay rows.audit) ∙ stored-size e.kind d s (stored_in (replay rows.audit) d) is)) ∙ ap (size_of (e ∷ rows.audit)) (sym same) ∙ of in
+        let found : Some s ≡ Some size = sym (ap (option_map (λ (x : StoredItem). x.size)) (stored-step d e.number e.moment e.kind (replay rows.audit) ∙ stored-size e.kind d s (stored_in (replay rows.audit) d) is (subst (λ q. stores q e.kind ≡ true) same stored))) ∙ ap (size_of (e ∷ rows.audit)) (sym same) ∙ of in
         let length_is : s ≡ size = cc found in
         subst (λ q. HasLength c q size) (sym same) (subst (HasLength c d) length_is sized)
     either q size here of false unstored = h.present q size (present-older rows.audit e q unstored here) (size-older rows.audit e q size unstored of)
 
 -- ---- all of it
 -- a pair that is there before it is there after it
-still-there : (j : List AuditEntry) (e : AuditEntry) (d : Digest) (s : ℕ) → Associates e.kind d s → (p : List ℕ) (q : Digest) → IsSome (pair_in (replay j) p q) → IsSome (pair_in (replay (e ∷ j)) p q)
+still-there : (j : List AuditEntry) (e : AuditEntry) (d : Digest) (s : ℕ) → Names e.kind d s → (p : List ℕ) (q : Digest) → IsSome (pair_in (replay j) p q) → IsSome (pair_in (replay (e ∷ j)) p q)
 still-there j e d s is p q there = subst IsSome (sym (pair-step p q e.number e.moment e.kind (replay j))) (pair-stays p q e.kind d s (pair_in (replay j) p q) is there)
 
-complete-after : (j : List AuditEntry) (e : AuditEntry) (d : Digest) (s : ℕ) → Legal j e → Associates e.kind d s → (p : List ℕ) → AllByRecursion (λ q. IsSome (pair_in (replay j) p q)) (needed (replay j) p) → AllByRecursion (λ q. IsSome (pair_in (replay (e ∷ j)) p q)) (needed (replay (e ∷ j)) p)
+complete-after : (j : List AuditEntry) (e : AuditEntry) (d : Digest) (s : ℕ) → Legal j e → Names e.kind d s → (p : List ℕ) → AllByRecursion (λ q. IsSome (pair_in (replay j) p q)) (needed (replay j) p) → AllByRecursion (λ q. IsSome (pair_in (replay (e ∷ j)) p q)) (needed (replay (e ∷ j)) p)
 complete-after j e d s legal is p before =
     needed-after (λ q. IsSome (pair_in (replay (e ∷ j)) p q)) p e.number e.moment e.kind (replay j) d s is
     (λ project q same there. subst (λ x. IsSome (pair_in (replay (e ∷ j)) x q)) (sym same) (subst IsSome (sym (pair-step project q e.number e.moment e.kind (replay j))) there))
@@ -268,7 +279,7 @@ complete-after j e d s legal is p before =
     (λ q there. still-there j e d s is p q (subst (λ x. IsSome (pair_in (replay j) x q)) (sym same) there)) refs legal_put.has_refs)
     (All-weaker (λ q. IsSome (pair_in (replay j) p q)) (λ q. IsSome (pair_in (replay (e ∷ j)) p q)) (still-there j e d s is p) (needed (replay j) p) before)
 
-pub kept-whole : (rows : Tables) (n m : Notes) (c : Contents) (t : ℕ) (e : AuditEntry) (d : Digest) (s : ℕ) → IsWhole rows n c t → Legal rows.audit e → Associates e.kind d s → IsKept c d → (OneLength c → HasLength c d s) → FewerPlacements n m → IsWhole (after_entry rows e) m c e.moment
+pub kept-whole : (rows : Tables) (n m : Notes) (c : Contents) (t : ℕ) (e : AuditEntry) (d : Digest) (s : ℕ) → IsWhole rows n c t → Legal rows.audit e → Names e.kind d s → IsKept c d → (OneLength c → HasLength c d s) → FewerPlacements n m → IsWhole (after_entry rows e) m c e.moment
 kept-whole rows n m c t e d s h legal is kept sized fewer =
     let j = rows.audit in
     let history : History (e ∷ j) = (legal, h.stands.history) in

@@ -1,3 +1,3 @@
-pub mod Associating
+pub mod Naming
 pub mod PresentRows
 pub mod Versions

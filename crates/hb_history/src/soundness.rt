@@ -12,7 +12,7 @@ ghost use Rattle.hb_model.specs.Registry.{ArtifactItem, PairItem, artifact_in, p
 ghost use Rattle.hb_model.specs.Replay.{replay, size_of};
 ghost use Rattle.hb_model.specs.Sound.{HasLength, IsSound, OneLength};
 ghost use Rattle.hb_model.specs.Whole.{IsKept, IsWhole};
-ghost use Rattle.hb_history.specs.Associating.{Associates, FewerPlacements};
+ghost use Rattle.hb_history.specs.Naming.{Names, FewerPlacements};
 
 /// What a project has counts with the size that is stored.
 pub fn sizes_of_pairs_are_those_stored()
@@ -32,12 +32,12 @@ pub fn whole_registries_are_sound()
         → IsSound (replay rows.audit) c }
 {}
 
-/// An entry by which a project gets content that the store holds keeps rows, notes and store fitting one another:
-/// the content is held with bytes of its digest, no removal of it may still take effect, and it has the size of
-/// the entry. Of the notes some placements may end with it.
-pub fn content_that_is_held_may_be_associated()
+/// An entry by which a project gets content that the store holds, or touches it, keeps rows, notes and store fitting
+/// one another: the content is held with bytes of its digest, no removal of it may still take effect, and it has
+/// this size, which is that of an entry that has one. Of the notes some placements may end with it.
+pub fn content_that_is_held_may_be_named()
     ensures { (rows : Tables) (n m : Notes) (c : Contents) (t : ℕ) (e : AuditEntry) (d : Digest) (size : ℕ)
-        → IsWhole rows n c t → Legal rows.audit e → Associates e.kind d size
+        → IsWhole rows n c t → Legal rows.audit e → Names e.kind d size
         → IsKept c d → (OneLength c → HasLength c d size) → FewerPlacements n m
         → IsWhole (after_entry rows e) m c e.moment }
 {}

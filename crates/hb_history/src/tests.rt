@@ -6,7 +6,7 @@ use crate::presence::{
     what_a_project_has_is_present,
 };
 use crate::soundness::{
-    content_that_is_held_may_be_associated, sizes_of_artifacts_are_those_stored,
+    content_that_is_held_may_be_named, sizes_of_artifacts_are_those_stored,
     sizes_of_pairs_are_those_stored, whole_registries_are_sound,
 };
 use crate::usage::{additions_stay_within_the_limit, what_is_used_is_the_recount};
@@ -27,6 +27,6 @@ fn laws(_rt: HostRuntime) -> Result<(), Fail> {
     sizes_of_pairs_are_those_stored();
     sizes_of_artifacts_are_those_stored();
     whole_registries_are_sound();
-    content_that_is_held_may_be_associated();
+    content_that_is_held_may_be_named();
     Ok(())
 }

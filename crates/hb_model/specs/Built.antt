@@ -2,7 +2,7 @@
 use Rattle.std.specs.Prelude.{ℕ, ◌+◌, ◌<◌, ◌^◌, Bool, true, false, List, IfSome}
 use Rattle.hb_text.specs.Names.{project_of}
 use Rattle.hb_records.specs.declared.entries.EntryKind.{EntryKind}
-use Rattle.hb_records.specs.declared.entries.EntryKind.TheVariants.{ProjectMade, UploadBegun, UploadEnded, Associated, ArtifactPut, Pulled}
+use Rattle.hb_records.specs.declared.entries.EntryKind.TheVariants.{ProjectMade, UploadBegun, UploadEnded, Associated, Touched, ArtifactPut, Pulled}
 use Rattle.hb_rows.specs.Tables.{Tables, project_at}
 
 -- a registry makes entries of these kinds alone, and fits rows of no other
@@ -11,6 +11,7 @@ is_built (ProjectMade project limit) = true
 is_built (UploadBegun name) = true
 is_built (UploadEnded job upload) = true
 is_built (Associated project digest size) = true
+is_built (Touched project digest) = true
 is_built (ArtifactPut name digest size media refs children tag) = true
 is_built (Pulled name digest) = true
 is_built _ = false

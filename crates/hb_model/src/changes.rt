@@ -189,6 +189,21 @@ pub fn touch(
     Ok(())
 }
 
+/// A project's digest is touched: its pair and its blob, where they are there.
+pub fn touched(
+    alloc: Global,
+    stamp: Stamp,
+    pair: Option<&Assoc>,
+    blob: Option<&Blob>,
+) -> Result<ChangeList, Memory>
+    ensures { (t : Tables) (project : List ℕ) (digest : Digest) → pair_at t project digest ≡ option_copied pair.entry → blob_at t digest ≡ option_copied blob.entry
+        → IfOk result (λ made. made ≡ touch_changes stamp.number stamp.moment project t digest) }
+{
+    let mut made = Listed::new(alloc);
+    touch(alloc, &mut made, stamp, pair, blob)?;
+    Ok(made)
+}
+
 fn new_artifact(
     alloc: Global,
     stamp: Stamp,
@@ -366,6 +381,10 @@ pub fn changes_of(alloc: Global, rows: &Rows, entry: &Entry) -> Result<Option<Ch
             let row = rows.project(project);
             let pair = rows.pair(project, digest);
             Ok(Some(associated(alloc, stamp, project, digest, *size, row, pair)?))
+        }
+        EntryKind::Touched { project, digest } => {
+            let pair = rows.pair(project, digest);
+            Ok(Some(touched(alloc, stamp, pair, rows.blob(digest))?))
         }
         EntryKind::ArtifactPut {
             name,

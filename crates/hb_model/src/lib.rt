@@ -1,7 +1,7 @@
 //! What the registry means: what clients see after an audit, which audits are legal, which rows are those of an
 //! audit, and what every event keeps. docs/DEFINITIONS.md has each definition in a sentence.
 //!
-//! An audit is the list of its entries, the newest first. The code makes the changes of six of the 24 kinds of entries,
+//! An audit is the list of its entries, the newest first. The code makes the changes of seven of the 24 kinds of entries,
 //! counts afresh what a project uses, and tells whether rows are those of their audit. The definitions and the
 //! laws are of all kinds.
 //!
