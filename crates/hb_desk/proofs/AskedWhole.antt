@@ -1,7 +1,7 @@
 -- An ask keeps rows, notes and store fitting one another.
 use Rattle.std.proofs.Common.{◌≡◌, ◌≤◌, ◌<◌, ℕ, suc, Bool, true, false, not, cond, ◌&&◌, ◌||◌, List, [], ◌∷◌, map, length, Option, Some, None, Ok, Err, is_some, unwrap_or, find, nat_eq, nat_le, refl, sym, ap, subst, ◌∙◌, arith}
 use Rattle.std.proofs.lemmas.Bool.Decides.{nat_tests}
-use Rattle.std.specs.List.{AllByRecursion}
+use Rattle.std.specs.List.{AllByRecursion, filter}
 use Rattle.std.specs.Cmp.{nat_cmp_is}
 use Rattle.std.proofs.lemmas.Cmp.{tied_itself}
 use Rattle.std.specs.Ordering.{is_eq}
@@ -26,30 +26,31 @@ use Rattle.hb_model.specs.Moves.{stores, takes_digest, collects}
 use Rattle.hb_model.specs.Presence.{present}
 use Rattle.hb_model.specs.Quiet.{is_quiet}
 use Rattle.hb_model.specs.Numbered.{IsNumbered}
-use Rattle.hb_model.specs.Registry.{Registry, UploadItem, project_in, artifact_in, upload_in, upload_key, stored_in}
+use Rattle.hb_model.specs.Registry.{Registry, PairItem, UploadItem, project_in, pair_in, artifact_in, upload_in, upload_key, stored_in}
 use Rattle.hb_model.specs.Replay.{replay, step, size_of}
 use Rattle.hb_model.specs.Sound.{OneLength, HasLength}
 use Rattle.hb_model.specs.Whole.{IsWhole, IsKept}
 use Rattle.hb_model.proofs.Batches.{history-numbered}
 use Rattle.hb_model.proofs.EntrySteps.{no_upload-newer}
 use Rattle.hb_model.proofs.WholeSteps.{quiet-whole}
-use Rattle.hb_history.specs.Associating.{Associates}
+use Rattle.hb_history.specs.Naming.{Names}
 use Rattle.hb_history.proofs.KeptWhole.{all-filter, kept-whole, uncollected, untaken}
-use Rattle.hb_history.proofs.Settled.{exact-digest}
+use Rattle.hb_history.proofs.Settled.{exact-digest, settled}
+use Rattle.hb_history.proofs.Sizes.{sizes-stored}
 use Rattle.hb_desk.specs.Calls.{Asked, Gave, Tells}
 use Rattle.hb_desk.specs.Keeping.{rows_with, state_of, AsksKeepWhole}
 use Rattle.hb_desk.specs.Notes.{is_placement, placement_of}
 use Rattle.hb_desk.specs.Noting.{noted_ask, gone_by, settling}
 use Rattle.hb_desk.specs.Refusing.{spent, no_project, no_upload, no_upload_of, missing_ref, missing_child, immutable_tag, over_limit, still_collecting, raced}
-use Rattle.hb_desk.specs.Reply.{Reply, refuse, refused, gives, commits, reply_ask, end_upload, seal, seal_manifest, settle, settled_size, put}
+use Rattle.hb_desk.specs.Reply.{Reply, refuse, refused, gives, commits, reply_ask, touch_pair, named_by, end_upload, seal, seal_manifest, settle, settled_size, put}
 use Rattle.hb_desk.specs.State.{State}
 use Rattle.hb_desk.specs.declared.asks.Ask.{Ask}
-use Rattle.hb_desk.specs.declared.asks.Ask.TheVariants.{ShowProject, BeginUpload, EndUpload, Seal, SealManifest, Settle, PutArtifact, NotePull}
+use Rattle.hb_desk.specs.declared.asks.Ask.TheVariants.{ShowProject, TouchBlob, BeginUpload, EndUpload, Seal, SealManifest, Settle, PutArtifact, Look, NotePull}
 use Rattle.hb_desk.specs.declared.refusals.Refusal.{Refusal}
 use Rattle.hb_desk.specs.declared.refusals.Refusal.TheVariants.{UploadUnknown, JobUnknown}
 use Rattle.hb_desk.specs.declared.told.Told.{Told}
 use Rattle.hb_desk.specs.declared.told.Told.TheVariants as told
-use Rattle.hb_desk.proofs.LegalReplies.{Makes, no-refusal, committed, held, some-known, show-none, present-size, reply-legal}
+use Rattle.hb_desk.proofs.LegalReplies.{Makes, no-refusal, committed, held, some-known, show-none, look-none, present-size, reply-legal}
 
 -- ---- an event without an entry
 -- at a later moment, and with some of the placements
@@ -102,13 +103,19 @@ record Settles (s : State) (upload : ℕ) (d : Digest) (x : Placement) : Type 0 
 -- the entry that an ask makes
 abbrev Commits : Ask → State → EntryKind → Type 0
 Commits (ShowProject name) s kind = ⊥
+Commits (TouchBlob name d) s kind = (x : PairItem) × (pair_in (replay s.audit) (project_of name) d ≡ Some x) × (kind ≡ entry.Touched (project_of name) d)
 Commits (BeginUpload name) s kind = kind ≡ entry.UploadBegun name
 Commits (EndUpload job upload) s kind = kind ≡ entry.UploadEnded 0 upload
 Commits (Seal upload d size) s kind = (is_some (upload_in (replay s.audit) upload) ≡ true) × (kind ≡ entry.UploadEnded 0 upload)
 Commits (SealManifest upload p) s kind = (is_some (upload_in (replay s.audit) upload) ≡ true) × (kind ≡ entry.UploadEnded 0 upload)
 Commits (Settle name upload d) s kind = (x : Placement) × Settles s upload d x × (kind ≡ entry.Associated (project_of name) d (settled_size s.audit d x))
 Commits (PutArtifact upload p) s kind = (x : Placement) × Settles s upload p.digest x × (kind ≡ entry.ArtifactPut p.name p.digest (settled_size s.audit p.digest x) p.media p.refs p.children p.tag)
+Commits (Look name ref) s kind = ⊥
 Commits (NotePull name d) s kind = kind ≡ entry.Pulled name d
+
+touch-commits : (s : State) (t : ℕ) (name : List ℕ) (d : Digest) (x : Option PairItem) (kind : EntryKind) → pair_in (replay s.audit) (project_of name) d ≡ x → Makes (touch_pair s.audit (project_of name) d x) kind → Commits (TouchBlob name d) s kind
+touch-commits s t name d None kind is h = cc h
+touch-commits s t name d (Some x) kind is h = (x, is, sym (committed s.audit (told.Blob x.size) (entry.Touched (project_of name) d) kind h))
 
 seal-commits : (s : State) (t upload : ℕ) (d : Digest) (size : ℕ) (x : Option UploadItem) (kind : EntryKind) → upload_in (replay s.audit) upload ≡ x → Makes (seal s.audit t upload d size x) kind → Commits (Seal upload d size) s kind
 seal-commits s t upload d size None kind is h = cc h
@@ -138,6 +145,9 @@ put-commits s t upload p (Some x) kind is h =
 
 ask-commits : (ask : Ask) (s : State) (t : ℕ) (kind : EntryKind) → Makes (reply_ask ask s t) kind → Commits ask s kind
 ask-commits (ShowProject name) s t kind h = show-none s.audit name (project_in (replay s.audit) name) kind h
+ask-commits (TouchBlob name d) s t kind h =
+    let a = no-refusal (no_project s.audit (project_of name)) _ kind h in
+    touch-commits s t name d (pair_in (replay s.audit) (project_of name) d) kind refl a.1
 ask-commits (BeginUpload name) s t kind h =
     let a = no-refusal (no_project s.audit (project_of name)) _ kind h in
     sym (committed s.audit (told.Begun (suc (length s.audit))) (entry.UploadBegun name) kind a.1)
@@ -161,6 +171,7 @@ ask-commits (Settle name upload d) s t kind h =
 ask-commits (PutArtifact upload p) s t kind h =
     let a = no-refusal (no_project s.audit (project_of p.name)) _ kind h in
     put-commits s t upload p (placement_of s.notes upload p.digest) kind refl a.1
+ask-commits (Look name ref) s t kind h = let a = no-refusal (no_project s.audit (project_of name)) _ kind h in look-none (named_by (replay s.audit) name ref) kind a.1
 ask-commits (NotePull name d) s t kind h = go (is_some (artifact_in (replay s.audit) name d)) h
   where
     go : (b : Bool) → Makes (cond b (commits s.audit told.Done (entry.Pulled name d)) (gives (Tells told.Nothing))) kind → kind ≡ entry.Pulled name d
@@ -246,6 +257,10 @@ placement-digest upload d x xs found = exact-digest d x.digest (right (nat_eq up
 gone-zero : (x : Placement) → (false || nat_eq x.gone 0) ≡ true → x.gone ≡ 0
 gone-zero x e = grind (arith, nat_tests)
 
+filter-all : (xs : List Placement) → filter (λ x. true) xs ≡ xs
+filter-all [] = refl
+filter-all (x ∷ xs) = ap (λ rest. x ∷ rest) (filter-all xs)
+
 -- ---- an ask that is Ok and makes an entry
 module _ (rows : Tables) (n : Notes) (c : Contents) (before t : ℕ) (h : IsWhole rows n c before) (later : before ≤ t) where
   next : EntryKind → AuditEntry
@@ -260,6 +275,17 @@ module _ (rows : Tables) (n : Notes) (c : Contents) (before t : ℕ) (h : IsWhol
       subst (λ m. IsWhole (after_entry rows (record { number = suc (length rows.audit); moment = t; kind = kind })) m c t)
       (sym (gone-same (suc (length rows.audit)) kind n untaken_by uncollected_by))
       (quiet-whole rows n n c before (record { number = suc (length rows.audit); moment = t; kind = kind }) h legal quiet (record { sealed = refl; placements = refl; spells = refl; sightings = refl }))
+
+  -- what a project has is touched
+  touch-made : (p : List ℕ) (d : Digest) (x : PairItem) → pair_in (replay rows.audit) p d ≡ Some x → IsNext (entry.Touched p d) → IsWhole (after_entry rows (record { number = suc (length rows.audit); moment = t; kind = entry.Touched p d })) (gone_by (suc (length rows.audit)) (Some (entry.Touched p d)) n) c t
+  unfolding IsNext
+  touch-made p d x found legal =
+      let e : AuditEntry = record { number = suc (length rows.audit); moment = t; kind = entry.Touched p d } in
+      let here = (settled rows.audit h.stands.history p d (ap (λ (y : Option PairItem). is_some y) found)).here in
+      subst (λ m. IsWhole (after_entry rows e) m c t)
+      (sym (gone-same (suc (length rows.audit)) (entry.Touched p d) n (λ q. refl) (λ q. refl)))
+      (kept-whole rows n n c before e d x.size h legal refl (h.present_kept d here) (λ one. (h.lengths one).present d x.size here (sizes-stored rows.audit h.stands.history p d x found))
+      (record { test = λ x. true; placements = sym (filter-all n.placements); sealed = refl; spells = refl; sightings = refl }))
 
   -- an upload is sealed, and ends
   seal-made : (x : Sealed) → is_some (upload_in (replay rows.audit) x.upload) ≡ true → IsNext (entry.UploadEnded 0 x.upload) → IsWhole (after_entry rows (record { number = suc (length rows.audit); moment = t; kind = entry.UploadEnded 0 x.upload })) (gone_by (suc (length rows.audit)) (Some (entry.UploadEnded 0 x.upload)) (record n { sealed = x ∷ n.sealed })) c t
@@ -290,7 +316,7 @@ module _ (rows : Tables) (n : Notes) (c : Contents) (before t : ℕ) (h : IsWhol
           subst (HasLength c d) (sym (ap (λ b. unwrap_or (cond b (size_of rows.audit d) None) x.size) absent))
           (subst (λ q. HasLength c q x.size) (sym (placement-digest upload d x n.placements settles.found)) (found-all (λ (x : Placement). x.gone ≡ 0 → HasLength c x.digest x.size) (is_placement upload d) x n.placements settles.found (h.lengths one).placed (gone-zero x f)))
 
-  settle-made : (kind : EntryKind) (upload : ℕ) (d : Digest) (x : Placement) → IsNext kind → Settles (state_of rows n) upload d x → Associates kind d (settled_size rows.audit d x) → IsWhole (after_entry rows (record { number = suc (length rows.audit); moment = t; kind = kind })) (gone_by (suc (length rows.audit)) (Some kind) (settling upload n)) c t
+  settle-made : (kind : EntryKind) (upload : ℕ) (d : Digest) (x : Placement) → IsNext kind → Settles (state_of rows n) upload d x → Names kind d (settled_size rows.audit d x) → IsWhole (after_entry rows (record { number = suc (length rows.audit); moment = t; kind = kind })) (gone_by (suc (length rows.audit)) (Some kind) (settling upload n)) c t
   unfolding IsNext
   settle-made kind upload d x legal settles is =
       let e : AuditEntry = record { number = suc (length rows.audit); moment = t; kind = kind } in
@@ -309,6 +335,8 @@ refused-notes rows n c t (Seal upload d size) refusal h = h
 refused-notes rows n c t (SealManifest upload p) refusal h = h
 refused-notes rows n c t (Settle name upload d) refusal h = settled-whole rows n c t upload h
 refused-notes rows n c t (PutArtifact upload p) refusal h = settled-whole rows n c t upload h
+refused-notes rows n c t (TouchBlob name d) refusal h = h
+refused-notes rows n c t (Look name ref) refusal h = h
 refused-notes rows n c t (NotePull name d) refusal h = h
 
 abbrev KeepsMade : Tables → Notes → Contents → ℕ → Ask → Gave → Option EntryKind → Type 0
@@ -317,6 +345,9 @@ KeepsMade rows n c t ask gave made = IsWhole (rows_with t made rows) (gone_by (s
 some-made : (rows : Tables) (n : Notes) (c : Contents) (before t : ℕ) (ask : Ask) (gave : Gave) (kind : EntryKind) → IsWhole rows n c before → before ≤ t → Legal rows.audit (record { number = suc (length rows.audit); moment = t; kind = kind }) → Commits ask (state_of rows n) kind → KeepsMade rows n c t ask gave (Some kind)
 unfolding IsNext
 some-made rows n c before t (ShowProject name) gave kind h later legal commits = absurd commits
+some-made rows n c before t (TouchBlob name d) gave kind h later legal commits =
+    subst (λ k. KeepsMade rows n c t (TouchBlob name d) gave (Some k)) (sym commits.2)
+    (touch-made rows n c before t h later (project_of name) d commits.0 commits.1 (subst (λ k. Legal rows.audit (record { number = suc (length rows.audit); moment = t; kind = k })) commits.2 legal))
 some-made rows n c before t (BeginUpload name) gave kind h later legal commits =
     subst (λ k. KeepsMade rows n c t (BeginUpload name) gave (Some k)) (sym commits)
     (quiet-made rows n c before t h later (entry.UploadBegun name) (subst (λ k. Legal rows.audit (record { number = suc (length rows.audit); moment = t; kind = k })) commits legal) refl (λ d. refl) (λ d. refl))
@@ -335,6 +366,7 @@ some-made rows n c before t (Settle name upload d) gave kind h later legal commi
 some-made rows n c before t (PutArtifact upload p) gave kind h later legal commits =
     subst (λ k. KeepsMade rows n c t (PutArtifact upload p) gave (Some k)) (sym commits.2)
     (settle-made rows n c before t h later (entry.ArtifactPut p.name p.digest (settled_size rows.audit p.digest commits.0) p.media p.refs p.children p.tag) upload p.digest commits.0 (subst (λ k. Legal rows.audit (record { number = suc (length rows.audit); moment = t; kind = k })) commits.2 legal) commits.1 (refl, refl))
+some-made rows n c before t (Look name ref) gave kind h later legal commits = absurd commits
 some-made rows n c before t (NotePull name d) gave kind h later legal commits =
     subst (λ k. KeepsMade rows n c t (NotePull name d) gave (Some k)) (sym commits)
     (quiet-made rows n c before t h later (entry.Pulled name d) (subst (λ k. Legal rows.audit (record { number = suc (length rows.audit); moment = t; kind = k })) commits legal) refl (λ q. refl) (λ q. refl))
@@ -377,6 +409,8 @@ none-made rows n c before t (Seal upload d size) gave h later ok none = absurd (
 none-made rows n c before t (SealManifest upload p) gave h later ok none = absurd (no-bare-manifest rows.audit t upload p gave (ok, none))
 none-made rows n c before t (Settle name upload d) gave h later ok none = settled-whole rows n c t upload (later-whole rows n c before t h later)
 none-made rows n c before t (PutArtifact upload p) gave h later ok none = settled-whole rows n c t upload (later-whole rows n c before t h later)
+none-made rows n c before t (TouchBlob name d) gave h later ok none = later-whole rows n c before t h later
+none-made rows n c before t (Look name ref) gave h later ok none = later-whole rows n c before t h later
 none-made rows n c before t (NotePull name d) gave h later ok none = later-whole rows n c before t h later
 
 pub asked-whole : AsksKeepWhole

@@ -1,11 +1,11 @@
 -- What stands behind the points of a caller's events at the end.
-use Rattle.std.proofs.Common.{◌≡◌, ℕ, suc, Bool, true, List, [], ◌∷◌, length, Option, Some, None, Ok, Err, IfSome, is_some, refl, sym, ap, subst, ◌∙◌, inl, inr}
+use Rattle.std.proofs.Common.{◌≡◌, ℕ, suc, Bool, true, false, List, [], ◌∷◌, length, Option, Some, None, Ok, Err, IfSome, is_some, refl, sym, ap, subst, ◌∙◌, inl, inr}
 use Rattle.std.specs.List.{AllByRecursion}
 use Rattle.hb_records.specs.Entries.{AuditEntry}
 use Rattle.hb_records.specs.declared.entries.EntryKind.{EntryKind}
 use Rattle.hb_desk.specs.Calls.{Outcome}
-use Rattle.hb_desk.specs.Chains.{Chain, IsBetween, Stands}
-use Rattle.hb_desk.specs.Clause.{EventFrom, Leaves, MineGrows, View, may_be_unmade}
+use Rattle.hb_desk.specs.Chains.{Chain, IsSpentByReply, Stands}
+use Rattle.hb_desk.specs.Clause.{Fits, Leaves, MineGrows, View, is_fault, may_be_unmade}
 use Rattle.hb_desk.specs.Events.{Event, acknowledged, after, entry_of, happens}
 use Rattle.hb_desk.specs.Points.{Point, point_of}
 use Rattle.hb_desk.specs.Prefix.{GoesOn}
@@ -61,4 +61,20 @@ chain-stands start now (p ∷ points) s s' chain first last =
         newest-stands p at s' mid now between.is between.event.mine between.event.leaves last,
         all-stand between.before.audit s'.audit mid.mine now.mine points goes between.event.mine.kept behind.1,
       ),
+    )
+
+-- ---- a seat that is left
+not-yet : (before after : Bool) → (before ≡ true → after ≡ true) → after ≡ false → before ≡ false
+not-yet false after stays left = refl
+not-yet true after stays left = let both : true ≡ false = sym (stays refl) ∙ left in cc both
+
+spent-by-reply : (p : Point) (at : State) (old new : View) → p ≡ point_of old new at p.event.call p.event.outcome p.fault → Fits new.spent (record { call = p.event.call; moment = new.moment; outcome = p.event.outcome }) at → new.spent ≡ false → IsSpentByReply p
+spent-by-reply p at old new is answered left = subst IsSpentByReply (sym is) (λ spent. sym (answered (ap (is_fault new.spent) spent ∙ left)) ∙ spent)
+
+pub chain-spent : (start now : View) (points : List Point) → Chain start points now → now.spent ≡ false → AllByRecursion IsSpentByReply points
+chain-spent start now [] chain left = tt
+chain-spent start now (p ∷ points) chain left =
+    let between = chain.2 in (
+      spent-by-reply p (after between.event.others between.before) chain.0 now between.is between.event.answered left,
+      chain-spent start chain.0 points chain.1 (not-yet chain.0.spent now.spent between.moves.seat left),
     )

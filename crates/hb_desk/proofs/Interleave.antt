@@ -15,7 +15,7 @@ use Rattle.hb_desk.specs.Notes.{sealed_at, without_sealed}
 use Rattle.hb_desk.specs.Reply.{reply}
 use Rattle.hb_desk.specs.State.{State}
 use Rattle.hb_desk.specs.declared.asks.Ask.{Ask}
-use Rattle.hb_desk.specs.declared.asks.Ask.TheVariants.{ShowProject, BeginUpload, EndUpload, Seal, SealManifest, Settle, PutArtifact, NotePull}
+use Rattle.hb_desk.specs.declared.asks.Ask.TheVariants.{ShowProject, TouchBlob, BeginUpload, EndUpload, Seal, SealManifest, Settle, PutArtifact, Look, NotePull}
 use Rattle.hb_desk.specs.declared.told.Told.{Told}
 use Rattle.hb_desk.specs.declared.refusals.Refusal.{Refusal}
 use Rattle.hb_desk.specs.declared.refusals.Refusal.TheVariants.{Memory}
@@ -225,6 +225,8 @@ keeps-asked (BeginUpload name) (Ok told) u x sealed apart h = h
 keeps-asked (EndUpload job upload) (Ok told) u x sealed apart h = h
 keeps-asked (Settle name upload d) (Ok told) u x sealed apart h = h
 keeps-asked (PutArtifact upload put) (Ok told) u x sealed apart h = h
+keeps-asked (TouchBlob name d) (Ok told) u x sealed apart h = h
+keeps-asked (Look name ref) (Ok told) u x sealed apart h = h
 keeps-asked (NotePull name d) (Ok told) u x sealed apart h = h
 keeps-asked ask (Err refusal) u x sealed apart h = h
 
@@ -242,6 +244,8 @@ seals-asked (BeginUpload name) (Ok told) sealed = tt
 seals-asked (EndUpload job upload) (Ok told) sealed = tt
 seals-asked (Settle name upload d) (Ok told) sealed = tt
 seals-asked (PutArtifact upload put) (Ok told) sealed = tt
+seals-asked (TouchBlob name d) (Ok told) sealed = tt
+seals-asked (Look name ref) (Ok told) sealed = tt
 seals-asked (NotePull name d) (Ok told) sealed = tt
 seals-asked (ShowProject name) (Err refusal) sealed = tt
 seals-asked (BeginUpload name) (Err refusal) sealed = tt
@@ -250,6 +254,8 @@ seals-asked (Seal upload d size) (Err refusal) sealed = tt
 seals-asked (SealManifest upload put) (Err refusal) sealed = tt
 seals-asked (Settle name upload d) (Err refusal) sealed = tt
 seals-asked (PutArtifact upload put) (Err refusal) sealed = tt
+seals-asked (TouchBlob name d) (Err refusal) sealed = tt
+seals-asked (Look name ref) (Err refusal) sealed = tt
 seals-asked (NotePull name d) (Err refusal) sealed = tt
 
 -- the desk has sealed what the caller sealed before, and what it seals now
@@ -271,6 +277,8 @@ still-err u (Seal upload d size) refusal = refl
 still-err u (SealManifest upload put) refusal = refl
 still-err u (Settle name upload d) refusal = refl
 still-err u (PutArtifact upload put) refusal = refl
+still-err u (TouchBlob name d) refusal = refl
+still-err u (Look name ref) refusal = refl
 still-err u (NotePull name d) refusal = refl
 
 own-asked : (ask : Ask) (result : Result Told Refusal) (sealed desk_sealed : List Sealed) → ((u : ℕ) (x : Sealed) → moves_seal u (Asked ask) (plain Tells result) ≡ false → sealed_at u sealed ≡ Some x → sealed_at u desk_sealed ≡ Some x) → Seals ask result desk_sealed → (u : ℕ) (x : Sealed) → sealed_at u (sealed_after ask result sealed) ≡ Some x → sealed_at u desk_sealed ≡ Some x
@@ -281,6 +289,8 @@ own-asked (BeginUpload name) (Ok told) sealed desk_sealed others seals u x h = o
 own-asked (EndUpload job upload) (Ok told) sealed desk_sealed others seals u x h = others u x refl h
 own-asked (Settle name upload d) (Ok told) sealed desk_sealed others seals u x h = others u x refl h
 own-asked (PutArtifact upload put) (Ok told) sealed desk_sealed others seals u x h = others u x refl h
+own-asked (TouchBlob name d) (Ok told) sealed desk_sealed others seals u x h = others u x refl h
+own-asked (Look name ref) (Ok told) sealed desk_sealed others seals u x h = others u x refl h
 own-asked (NotePull name d) (Ok told) sealed desk_sealed others seals u x h = others u x refl h
 own-asked ask (Err refusal) sealed desk_sealed others seals u x h = others u x (still-err u ask refusal) h
 

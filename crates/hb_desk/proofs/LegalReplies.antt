@@ -21,10 +21,10 @@ use Rattle.hb_model.specs.LegalArtifacts.{may_set, may_set_tag}
 use Rattle.hb_desk.specs.Calls.{Call, Asked, StageTaken, StagePlaced, StageDropped, BlobOpened, ManifestOpened, Tells, Dropped}
 use Rattle.hb_desk.specs.Notes.{is_out, placement_of}
 use Rattle.hb_desk.specs.Refusing.{unless, spent, no_project, no_upload, no_upload_of, busy, out_of_order, missing_ref, missing_child, immutable_tag, moved_tag, rule_refusal, over_limit, still_collecting, raced}
-use Rattle.hb_desk.specs.Reply.{Reply, refuse, refused, gives, commits, reply, reply_ask, show_project, end_upload, seal, seal_manifest, settle, settled_size, put, take_stage, drop_stage, open_pair, named_by, open_artifact}
+use Rattle.hb_desk.specs.Reply.{Reply, refuse, refused, gives, commits, reply, reply_ask, show_project, touch_pair, end_upload, seal, seal_manifest, settle, settled_size, put, named_by, look_at, take_stage, drop_stage, open_pair, open_artifact}
 use Rattle.hb_desk.specs.State.{State}
 use Rattle.hb_desk.specs.declared.asks.Ask.{Ask}
-use Rattle.hb_desk.specs.declared.asks.Ask.TheVariants.{ShowProject, BeginUpload, EndUpload, Seal, SealManifest, Settle, PutArtifact, NotePull}
+use Rattle.hb_desk.specs.declared.asks.Ask.TheVariants.{ShowProject, TouchBlob, BeginUpload, EndUpload, Seal, SealManifest, Settle, PutArtifact, Look, NotePull}
 use Rattle.hb_desk.specs.declared.refusals.Refusal.{Refusal}
 use Rattle.hb_desk.specs.declared.refusals.Refusal.TheVariants.{NoProject, UploadUnknown, Busy, Immutable, Collecting, JobUnknown}
 use Rattle.hb_desk.specs.declared.told.Told.{Told}
@@ -192,12 +192,23 @@ pub show-none : (j : List AuditEntry) (p : List ℕ) (x : Option ProjectItem) (k
 show-none j p None kind h = cc h
 show-none j p (Some x) kind h = cc h
 
+touch-legal : (j : List AuditEntry) (t : ℕ) (p : List ℕ) (d : Digest) (x : Option PairItem) (kind : EntryKind) → latest j ≤ t → is_some (project_in (replay j) p) ≡ true → pair_in (replay j) p d ≡ x → Makes (touch_pair j p d x) kind → LegalNext j t kind
+touch-legal j t p d None kind later known is h = cc h
+touch-legal j t p d (Some x) kind later known is h = is-legal j t kind later (begun-project j p known) (subst (LegalKind j t) (committed j (told.Blob x.size) (entry.Touched p d) kind h) (record { known = ap (λ (y : Option PairItem). is_some y) is }))
+
+pub look-none : (x : Option ArtifactItem) (kind : EntryKind) → Makes (look_at x) kind → ⊥
+look-none None kind h = cc h
+look-none (Some x) kind h = cc h
+
 pull-legal : (j : List AuditEntry) (t : ℕ) (name : List ℕ) (d : Digest) (b : Bool) (kind : EntryKind) → latest j ≤ t → is_some (artifact_in (replay j) name d) ≡ b → Makes (cond b (commits j told.Done (entry.Pulled name d)) (gives (Tells told.Nothing))) kind → LegalNext j t kind
 pull-legal j t name d true kind later known h = is-legal j t kind later (begun-artifact j name d known) (subst (LegalKind j t) (committed j told.Done (entry.Pulled name d) kind h) (record { known = known }))
 pull-legal j t name d false kind later known h = cc h
 
 ask-legal : (ask : Ask) (s : State) (t : ℕ) (kind : EntryKind) → latest s.audit ≤ t → Makes (reply_ask ask s t) kind → LegalNext s.audit t kind
 ask-legal (ShowProject name) s t kind later h = absurd (show-none s.audit name (project_in (replay s.audit) name) kind h)
+ask-legal (TouchBlob name d) s t kind later h =
+    let a = no-refusal (no_project s.audit (project_of name)) _ kind h in
+    touch-legal s.audit t (project_of name) d (pair_in (replay s.audit) (project_of name) d) kind later (held _ NoProject a.0) refl a.1
 ask-legal (BeginUpload name) s t kind later h =
     let a = no-refusal (no_project s.audit (project_of name)) _ kind h in
     let known = held (is_some (project_in (replay s.audit) (project_of name))) NoProject a.0 in
@@ -215,6 +226,9 @@ ask-legal (Settle name upload d) s t kind later h =
 ask-legal (PutArtifact upload p) s t kind later h =
     let a = no-refusal (no_project s.audit (project_of p.name)) _ kind h in
     put-legal s.audit t p (placement_of s.notes upload p.digest) kind later (held _ NoProject a.0) a.1
+ask-legal (Look name ref) s t kind later h =
+    let a = no-refusal (no_project s.audit (project_of name)) _ kind h in
+    absurd (look-none (named_by (replay s.audit) name ref) kind a.1)
 ask-legal (NotePull name d) s t kind later h = pull-legal s.audit t name d (is_some (artifact_in (replay s.audit) name d)) kind later refl h
 
 -- ---- the other calls make no entry

@@ -1,5 +1,5 @@
 -- The clause of every event of a desk: what contracts see of a desk, and what one event makes of it.
-use Rattle.std.specs.Prelude.{◌≡◌, ◌≤◌, ◌<◌, ◌⊎◌, ◌^◌, ℕ, suc, min, Bool, true, false, List, [], ◌∷◌, length, Option, Some, None, is_some, nat_eq, IfSome, Result, Ok, Err}
+use Rattle.std.specs.Prelude.{◌≡◌, ◌≤◌, ◌<◌, ◌⊎◌, ◌^◌, ℕ, suc, min, Bool, true, false, List, [], ◌∷◌, length, Option, Some, is_some, nat_eq, IfSome, Result, Ok, Err}
 use Rattle.hb_outside.specs.Causes.{Rose}
 use Rattle.hb_records.specs.Entries.{LAST_MOMENT}
 use Rattle.hb_records.specs.declared.notes.Sealed.{Sealed}

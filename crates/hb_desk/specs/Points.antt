@@ -1,5 +1,5 @@
 -- The points of an operation's events: where each stood, and what it was. The newest stands first.
-use Rattle.std.specs.Prelude.{◌≡◌, ◌≤◌, ◌⊎◌, ℕ, List, ◌∷◌, Option, Some, None, Err, IfSome}
+use Rattle.std.specs.Prelude.{◌≡◌, ◌≤◌, ◌⊎◌, ℕ, true, List, ◌∷◌, Option, Some, None, Err, IfSome}
 use Rattle.hb_outside.specs.Causes.{Rose}
 use Rattle.hb_store.specs.Causes.{SomeRose}
 use Rattle.hb_desk.specs.Calls.{Call, Outcome}
@@ -66,11 +66,12 @@ pub record Stepped {O : Type 0} (Streams : Option Refusal → Type 0) (before : 
 abbrev pub Steps : {O : Type 0} → (Option Refusal → Type 0) → View → View → (O → List Point → Type 0) → (O → List Point → Type 0) → Type 0
 Steps Streams old new went went' = IfSome old.state (λ before. Stepped Streams before old new went went')
 
--- the numbers of a desk over an event, whatever it was
+-- the numbers of a desk over an event, whatever it was, and the seat, which stays spent
 pub record Moves (old new : View) : Type 0 where
   pub keeper_later : old.keeper_faults ≤ new.keeper_faults
   pub store_later : old.store_faults ≤ new.store_faults
   pub entries : old.entries ≤ new.entries
   pub rises : old.moment ≤ new.moment
+  pub seat : old.spent ≡ true → new.spent ≡ true
   pub sole : new.sole ≡ old.sole
   pub told_bytes : new.told_bytes ≡ old.told_bytes

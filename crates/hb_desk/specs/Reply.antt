@@ -19,7 +19,7 @@ use Rattle.hb_desk.specs.ProjectVersions.{project_version}
 use Rattle.hb_desk.specs.Refusing.{spent, no_project, no_upload, no_upload_of, busy, out_of_order, missing_ref, missing_child, immutable_tag, over_limit, still_collecting, raced}
 use Rattle.hb_desk.specs.State.{State}
 use Rattle.hb_desk.specs.declared.asks.Ask.{Ask}
-use Rattle.hb_desk.specs.declared.asks.Ask.TheVariants.{ShowProject, BeginUpload, EndUpload, Seal, SealManifest, Settle, PutArtifact, NotePull}
+use Rattle.hb_desk.specs.declared.asks.Ask.TheVariants.{ShowProject, TouchBlob, BeginUpload, EndUpload, Seal, SealManifest, Settle, PutArtifact, Look, NotePull}
 use Rattle.hb_desk.specs.declared.told.Told.{Told}
 use Rattle.hb_desk.specs.declared.told.Told.TheVariants as told
 use Rattle.hb_desk.specs.declared.refusals.Refusal.{Refusal}
@@ -47,6 +47,11 @@ commits j x kind = refuse (spent j) (record { outcome = Ok (Tells x); entry = So
 abbrev pub show_project : List AuditEntry → List ℕ → Option ProjectItem → Reply
 show_project j p None = refused NoProject
 show_project j p (Some x) = gives (Tells (told.Project x.limit (usage (replay j) p) (project_version j p)))
+
+-- what the project has is touched
+abbrev pub touch_pair : List AuditEntry → List ℕ → Digest → Option PairItem → Reply
+touch_pair j p d None = refused BlobUnknown
+touch_pair j p d (Some x) = commits j (told.Blob x.size) (entry.Touched p d)
 
 -- an upload ends by a client
 abbrev pub end_upload : List AuditEntry → ℕ → Reply
@@ -92,14 +97,25 @@ put j t p (Some x) =
     (refuse (raced j p.digest x)
     (commits j told.Done (entry.ArtifactPut p.name p.digest (settled_size j p.digest x) p.media p.refs p.children p.tag)))))))
 
+-- the artifact that a reference names
+abbrev pub named_by : Registry → List ℕ → Reference → Option ArtifactItem
+named_by m name (reference.Tag tag) = option_and_then (λ x. artifact_in m name x.digest) (tag_in m name tag)
+named_by m name (reference.Digest d) = artifact_in m name d
+
+abbrev pub look_at : Option ArtifactItem → Reply
+look_at None = refused ManifestUnknown
+look_at (Some x) = gives (Tells (told.Look x.digest x.size x.media))
+
 abbrev pub reply_ask : Ask → State → ℕ → Reply
 reply_ask (ShowProject name) s t = show_project s.audit name (project_in (replay s.audit) name)
+reply_ask (TouchBlob name d) s t = refuse (no_project s.audit (project_of name)) (touch_pair s.audit (project_of name) d (pair_in (replay s.audit) (project_of name) d))
 reply_ask (BeginUpload name) s t = refuse (no_project s.audit (project_of name)) (commits s.audit (told.Begun (suc (length s.audit))) (entry.UploadBegun name))
 reply_ask (EndUpload job upload) s t = if nat_eq job 0 then end_upload s.audit upload else refused JobUnknown
 reply_ask (Seal upload d size) s t = seal s.audit t upload d size (upload_in (replay s.audit) upload)
 reply_ask (SealManifest upload p) s t = seal_manifest s.audit t upload p
 reply_ask (Settle name upload d) s t = refuse (no_project s.audit (project_of name)) (settle s.audit t name d (placement_of s.notes upload d))
 reply_ask (PutArtifact upload p) s t = refuse (no_project s.audit (project_of p.name)) (put s.audit t p (placement_of s.notes upload p.digest))
+reply_ask (Look name ref) s t = refuse (no_project s.audit (project_of name)) (look_at (named_by (replay s.audit) name ref))
 reply_ask (NotePull name d) s t = if is_some (artifact_in (replay s.audit) name d) then commits s.audit told.Done (entry.Pulled name d) else gives (Tells told.Nothing)
 
 -- ---- the other calls
@@ -115,11 +131,6 @@ drop_stage s upload false = if is_out s.notes upload || is_some (upload_in (repl
 abbrev pub open_pair : Option PairItem → Reply
 open_pair None = refused BlobUnknown
 open_pair (Some x) = gives (Content x.digest x.size None)
-
--- the artifact that a reference names
-abbrev pub named_by : Registry → List ℕ → Reference → Option ArtifactItem
-named_by m name (reference.Tag tag) = option_and_then (λ x. artifact_in m name x.digest) (tag_in m name tag)
-named_by m name (reference.Digest d) = artifact_in m name d
 
 abbrev pub open_artifact : Option ArtifactItem → Reply
 open_artifact None = refused ManifestUnknown

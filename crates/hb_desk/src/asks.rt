@@ -1,5 +1,5 @@
 use hb_records::PutAsk;
-use hb_text::{Digest, Name, ProjectName};
+use hb_text::{Digest, Name, ProjectName, Reference};
 
 /// What a caller asks of a desk beside its stages and readers. Each ask is one event, and makes at most one
 /// entry of the audit.
@@ -8,6 +8,12 @@ pub enum Ask {
     /// A project, with what it uses.
     ShowProject {
         name: ProjectName,
+    },
+    /// A blob, with its size. The project has it, and it is touched: no collection takes it until the window since then
+    /// is over.
+    TouchBlob {
+        name: Name,
+        digest: Digest,
     },
     /// An upload begins.
     BeginUpload {
@@ -39,6 +45,11 @@ pub enum Ask {
     PutArtifact {
         upload: u64,
         put: PutAsk,
+    },
+    /// What a reference names. It isn't pulled.
+    Look {
+        name: Name,
+        reference: Reference,
     },
     /// An artifact was pulled.
     NotePull {

@@ -27,8 +27,8 @@ pub use desk::Desk;
 pub use gave::{Opened, Staged};
 pub use laws::{
     asks_keep_the_registry_whole, events_keep_a_history, one_event_is_what_others_may_do,
-    others_may_rest, points_stand_in_what_was_seen, what_is_replied_is_legal,
-    what_others_do_adds_up, what_was_seen_stays,
+    only_a_full_audit_is_spent, others_may_rest, points_stand_in_what_was_seen,
+    what_is_replied_is_legal, what_others_do_adds_up, what_was_seen_stays,
 };
 pub use ops::{Op, Progress};
 pub use refusals::Refusal;
