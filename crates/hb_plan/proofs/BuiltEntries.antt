@@ -8,15 +8,15 @@ use Rattle.hb_records.specs.declared.entries.EntryKind.TheVariants as entry
 use Rattle.hb_records.specs.declared.notes.Placement.{Placement}
 use Rattle.hb_records.specs.declared.puts.PutAsk.{PutAsk}
 use Rattle.hb_model.specs.Built.{is_built}
-use Rattle.hb_model.specs.Registry.{ProjectItem, UploadItem, project_in, artifact_in, upload_in}
+use Rattle.hb_model.specs.Registry.{ArtifactItem, PairItem, ProjectItem, UploadItem, project_in, pair_in, artifact_in, upload_in}
 use Rattle.hb_model.specs.Replay.{replay}
 use Rattle.hb_desk.specs.Calls.{Call, Asked, StageTaken, StagePlaced, StageDropped, BlobOpened, ManifestOpened, Tells}
 use Rattle.hb_desk.specs.Notes.{placement_of}
 use Rattle.hb_desk.specs.Refusing.{spent, no_project, no_upload, no_upload_of, missing_ref, missing_child, immutable_tag, over_limit, still_collecting, raced}
-use Rattle.hb_desk.specs.Reply.{Reply, refuse, refused, gives, commits, reply, reply_ask, show_project, end_upload, seal, settled_size, settle, put}
+use Rattle.hb_desk.specs.Reply.{Reply, refuse, refused, gives, commits, reply, reply_ask, show_project, touch_pair, end_upload, seal, settled_size, settle, put, named_by, look_at}
 use Rattle.hb_desk.specs.State.{State}
 use Rattle.hb_desk.specs.declared.asks.Ask.{Ask}
-use Rattle.hb_desk.specs.declared.asks.Ask.TheVariants.{ShowProject, BeginUpload, EndUpload, Seal, SealManifest, Settle, PutArtifact, NotePull}
+use Rattle.hb_desk.specs.declared.asks.Ask.TheVariants.{ShowProject, TouchBlob, BeginUpload, EndUpload, Seal, SealManifest, Settle, PutArtifact, Look, NotePull}
 use Rattle.hb_desk.specs.declared.refusals.Refusal.{Refusal}
 use Rattle.hb_desk.specs.declared.refusals.Refusal.TheVariants.{JobUnknown}
 use Rattle.hb_desk.specs.declared.told.Told.{Told}
@@ -44,6 +44,14 @@ show-builds : (j : List AuditEntry) (p : List ℕ) (x : Option ProjectItem) → 
 show-builds j p None = tt
 show-builds j p (Some x) = tt
 
+touch-builds : (j : List AuditEntry) (p : List ℕ) (d : Digest) (x : Option PairItem) → Builds (touch_pair j p d x)
+touch-builds j p d None = tt
+touch-builds j p d (Some x) = committing j [] (told.Blob x.size) (entry.Touched p d) refl
+
+look-builds : (x : Option ArtifactItem) → Builds (look_at x)
+look-builds None = tt
+look-builds (Some x) = tt
+
 seal-builds : (j : List AuditEntry) (t upload : ℕ) (d : Digest) (size : ℕ) (x : Option UploadItem) → Builds (seal j t upload d size x)
 seal-builds j t upload d size None = tt
 seal-builds j t upload d size (Some x) = committing j (over_limit j (project_of x.name) d size ∷ still_collecting j d t ∷ []) told.Done (entry.UploadEnded 0 upload) refl
@@ -60,6 +68,7 @@ put-builds j t p (Some x) =
 
 ask-builds : (ask : Ask) (s : State) (t : ℕ) → Builds (reply_ask ask s t)
 ask-builds (ShowProject name) s t = show-builds s.audit name (project_in (replay s.audit) name)
+ask-builds (TouchBlob name d) s t = refusing (no_project s.audit (project_of name) ∷ []) (touch_pair s.audit (project_of name) d (pair_in (replay s.audit) (project_of name) d)) (touch-builds s.audit (project_of name) d (pair_in (replay s.audit) (project_of name) d))
 ask-builds (BeginUpload name) s t = committing s.audit (no_project s.audit (project_of name) ∷ []) (told.Begun (suc (length s.audit))) (entry.UploadBegun name) refl
 ask-builds (EndUpload job upload) s t = elim (nat_eq job 0) as (λ b. Builds (cond b (end_upload s.audit upload) (refused JobUnknown))) [ true ↦ committing s.audit (no_upload s.audit upload ∷ []) told.Done (entry.UploadEnded 0 upload) refl | false ↦ tt ]
 ask-builds (Seal upload d size) s t = seal-builds s.audit t upload d size (upload_in (replay s.audit) upload)
@@ -68,6 +77,7 @@ ask-builds (SealManifest upload p) s t =
     told.Done (entry.UploadEnded 0 upload) refl
 ask-builds (Settle name upload d) s t = refusing (no_project s.audit (project_of name) ∷ []) (settle s.audit t name d (placement_of s.notes upload d)) (settle-builds s.audit t name d (placement_of s.notes upload d))
 ask-builds (PutArtifact upload p) s t = refusing (no_project s.audit (project_of p.name) ∷ []) (put s.audit t p (placement_of s.notes upload p.digest)) (put-builds s.audit t p (placement_of s.notes upload p.digest))
+ask-builds (Look name ref) s t = refusing (no_project s.audit (project_of name) ∷ []) (look_at (named_by (replay s.audit) name ref)) (look-builds (named_by (replay s.audit) name ref))
 ask-builds (NotePull name d) s t = elim (is_some (artifact_in (replay s.audit) name d)) as (λ b. Builds (cond b (commits s.audit told.Done (entry.Pulled name d)) (gives (Tells told.Nothing)))) [ true ↦ committing s.audit [] told.Done (entry.Pulled name d) refl | false ↦ tt ]
 
 unmade : (made : Option EntryKind) (kind : EntryKind) → made ≡ None → made ≡ Some kind → is_built kind ≡ true

@@ -18,7 +18,7 @@ use Rattle.hb_rows.specs.Tables.{Tables, project_at, pair_at, artifact_at, tag_a
 use Rattle.hb_model.specs.History.{Stands}
 use Rattle.hb_model.specs.LegalBlobs.{allows}
 use Rattle.hb_model.specs.Presence.{usage}
-use Rattle.hb_model.specs.Registry.{StoredItem, TagItem, project_in, artifact_in, stored_in}
+use Rattle.hb_model.specs.Registry.{StoredItem, TagItem, project_in, pair_in, artifact_in, stored_in}
 use Rattle.hb_model.specs.Replay.{replay}
 use Rattle.hb_model.specs.Seen.{seen_project, seen_pair, seen_artifact, seen_tag, seen_upload, seen_blob}
 use Rattle.hb_model.specs.Words.{same_text, some_and}
@@ -27,15 +27,15 @@ use Rattle.hb_desk.specs.Calls.{Call, Asked, StageTaken, StagePlaced, StageDropp
 use Rattle.hb_desk.specs.Notes.{is_out, placement_of}
 use Rattle.hb_desk.specs.ProjectVersions.{project_version}
 use Rattle.hb_desk.specs.Refusing.{unless, no_project, no_upload, no_upload_of, missing_ref, missing_child, over_limit}
-use Rattle.hb_desk.specs.Reply.{refuse, refused, gives, commits, reply, reply_ask, show_project, seal, settled_size, settle, put, take_stage, drop_stage, open_pair, named_by, open_artifact}
+use Rattle.hb_desk.specs.Reply.{refuse, refused, gives, commits, reply, reply_ask, show_project, touch_pair, seal, settled_size, settle, put, named_by, look_at, take_stage, drop_stage, open_pair, open_artifact}
 use Rattle.hb_desk.specs.State.{State}
 use Rattle.hb_desk.specs.declared.asks.Ask.{Ask}
-use Rattle.hb_desk.specs.declared.asks.Ask.TheVariants.{ShowProject, BeginUpload, EndUpload, Seal, SealManifest, Settle, PutArtifact, NotePull}
+use Rattle.hb_desk.specs.declared.asks.Ask.TheVariants.{ShowProject, TouchBlob, BeginUpload, EndUpload, Seal, SealManifest, Settle, PutArtifact, Look, NotePull}
 use Rattle.hb_desk.specs.declared.told.Told.TheVariants as told
 use Rattle.hb_desk.specs.declared.refusals.Refusal.TheVariants.{NoProject, UploadUnknown, MissingRef, MissingChild, OverLimit, JobUnknown, Busy}
 use Rattle.hb_plan.specs.BuiltAudits.{AllBuilt, NoneGone}
 use Rattle.hb_plan.specs.RowRefusals.{no_project_row, no_upload_row, no_upload_row_of, missing_ref_row, missing_child_row, over_limit_of, over_limit_row, stored_size}
-use Rattle.hb_plan.specs.RowReplies.{show_row, seal_over, settle_over, put_over, take_over, drop_over, open_row, row_named_by, open_artifact_row, row_reply, row_reply_ask}
+use Rattle.hb_plan.specs.RowReplies.{show_row, touch_row, seal_over, settle_over, put_over, row_named_by, look_row, take_over, drop_over, open_row, open_artifact_row, row_reply, row_reply_ask}
 use Rattle.hb_plan.proofs.BuiltAudits.{not-collecting, present-stored, not-immutable, placed-here, not-raced}
 use Rattle.hb_plan.proofs.ProjectVersions.{row-version}
 use Rattle.hb_plan.proofs.SeenRows.{project-seen, pair-seen, artifact-seen, tag-seen, upload-seen, blob-seen, project-known, pair-known, artifact-known, upload-known, usage-seen}
@@ -61,6 +61,10 @@ upload-of name (Some row) = refl
 taken-of : (s : State) (upload : ℕ) (start : Option ℕ) (x : Option Upload) → take_stage s upload start (option_map seen_upload x) ≡ take_over s.notes upload start x
 taken-of s upload start None = refl
 taken-of s upload start (Some row) = refl
+
+looked-of : (x : Option Artifact) → look_at (option_map seen_artifact x) ≡ look_row x
+looked-of None = refl
+looked-of (Some row) = refl
 
 opened-of : (x : Option Assoc) → open_pair (option_map seen_pair x) ≡ open_row x
 opened-of None = refl
@@ -101,6 +105,13 @@ module _ (r : Tables) (stands : Stands r) where
       go : (x : Option Project) → usage (replay r.audit) p ≡ used_in x → IfSome x (λ row. row.version ≡ project_version r.audit p) → show_project r.audit p (option_map seen_project x) ≡ show_row x
       go None used version = refl
       go (Some row) used version = let is = sym version in λ i. gives (Tells (told.Project row.limit (used i) (is i)))
+
+  touch-row : (p : List ℕ) (d : Digest) → touch_pair r.audit p d (pair_in (replay r.audit) p d) ≡ touch_row r p d (pair_at r p d)
+  touch-row p d = ap (touch_pair r.audit p d) (pair-seen r stands p d) ∙ go (pair_at r p d)
+    where
+      go : (x : Option Assoc) → touch_pair r.audit p d (option_map seen_pair x) ≡ touch_row r p d x
+      go None = refl
+      go (Some row) = refl
 
   named-row : (name : List ℕ) (ref : Reference) → named_by (replay r.audit) name ref ≡ option_map seen_artifact (row_named_by r name ref)
   named-row name (reference.Tag tag) = ap (λ x. option_and_then (λ item. artifact_in (replay r.audit) name item.digest) x) (tag-seen r stands name tag) ∙ go (tag_at r name tag)
@@ -157,6 +168,10 @@ module _ (r : Tables) (stands : Stands r) where
 
     ask-row : (ask : Ask) → reply_ask ask state t ≡ row_reply_ask ask r n
     ask-row (ShowProject name) = show-over name
+    ask-row (TouchBlob name d) =
+        let unknown = no-project-row (project_of name) in
+        let touched = touch-row (project_of name) d in
+        λ i. refuse (unknown i) (touched i)
     ask-row (BeginUpload name) = ap (λ x. refuse x (commits r.audit (told.Begun (suc (length r.audit))) (entry.UploadBegun name))) (no-project-row (project_of name))
     ask-row (EndUpload job upload) = ap (λ x. cond (nat_eq job 0) (refuse x (commits r.audit told.Done (entry.UploadEnded 0 upload))) (refused JobUnknown)) (no-upload-row upload)
     ask-row (Seal upload d size) = ap (seal r.audit t upload d size) (upload-seen r stands upload) ∙ seal-row upload d size (upload_at r upload)
@@ -176,6 +191,10 @@ module _ (r : Tables) (stands : Stands r) where
         let unknown = no-project-row (project_of p.name) in
         let made = put-row p (placement_of n upload p.digest) (placed-here n here upload p.digest) in
         λ i. refuse (unknown i) (made i)
+    ask-row (Look name ref) =
+        let unknown = no-project-row (project_of name) in
+        let looked = ap look_at (named-row name ref) ∙ looked-of (row_named_by r name ref) in
+        λ i. refuse (unknown i) (looked i)
     ask-row (NotePull name d) = ap (λ b. cond b (commits r.audit told.Done (entry.Pulled name d)) (gives (Tells told.Nothing))) (artifact-known r stands name d)
 
     dropped-row : (upload : ℕ) (handed : Bool) → drop_stage state upload handed ≡ drop_over r n upload handed

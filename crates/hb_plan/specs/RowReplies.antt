@@ -19,7 +19,7 @@ use Rattle.hb_desk.specs.Notes.{is_out, placement_of}
 use Rattle.hb_desk.specs.Refusing.{busy, out_of_order}
 use Rattle.hb_desk.specs.Reply.{Reply, refused, gives, refuse, commits}
 use Rattle.hb_desk.specs.declared.asks.Ask.{Ask}
-use Rattle.hb_desk.specs.declared.asks.Ask.TheVariants.{ShowProject, BeginUpload, EndUpload, Seal, SealManifest, Settle, PutArtifact, NotePull}
+use Rattle.hb_desk.specs.declared.asks.Ask.TheVariants.{ShowProject, TouchBlob, BeginUpload, EndUpload, Seal, SealManifest, Settle, PutArtifact, Look, NotePull}
 use Rattle.hb_desk.specs.declared.told.Told.TheVariants as told
 use Rattle.hb_desk.specs.declared.refusals.Refusal.TheVariants.{NoProject, UploadUnknown, BlobUnknown, ManifestUnknown, JobUnknown, NotPlaced, Busy}
 use Rattle.hb_plan.specs.RowRefusals.{no_project_row, no_upload_row, no_upload_row_of, missing_ref_row, missing_child_row, over_limit_row, stored_size}
@@ -28,6 +28,13 @@ use Rattle.hb_plan.specs.RowRefusals.{no_project_row, no_upload_row, no_upload_r
 abbrev pub show_row : Option Project → Reply
 show_row None = refused NoProject
 show_row (Some row) = gives (Tells (told.Project row.limit row.used row.version))
+
+abbrev pub touch_row : Tables → List ℕ → Digest → Option Assoc → Reply
+touch_row r p d None = refused BlobUnknown
+touch_row r p d (Some row) = commits r.audit (told.Blob row.size) (entry.Touched p d)
+
+abbrev pub touch_over : Tables → List ℕ → Digest → Reply
+touch_over r name d = refuse (no_project_row r (project_of name)) (touch_row r (project_of name) d (pair_at r (project_of name) d))
 
 abbrev pub begin_over : Tables → List ℕ → Reply
 begin_over r name = refuse (no_project_row r (project_of name)) (commits r.audit (told.Begun (suc (length r.audit))) (entry.UploadBegun name))
@@ -61,17 +68,31 @@ put_over r p (Some x) =
     parts_over r p (stored_size (blob_at r p.digest) x)
     (commits r.audit told.Done (entry.ArtifactPut p.name p.digest (stored_size (blob_at r p.digest) x) p.media p.refs p.children p.tag))
 
+-- the artifact that a reference names
+abbrev pub row_named_by : Tables → List ℕ → Reference → Option Artifact
+row_named_by r name (reference.Tag tag) = option_and_then (λ row. artifact_at r name row.digest) (tag_at r name tag)
+row_named_by r name (reference.Digest d) = artifact_at r name d
+
+abbrev pub look_row : Option Artifact → Reply
+look_row None = refused ManifestUnknown
+look_row (Some row) = gives (Tells (told.Look row.digest row.size row.media))
+
+abbrev pub look_over : Tables → List ℕ → Reference → Reply
+look_over r name ref = refuse (no_project_row r (project_of name)) (look_row (row_named_by r name ref))
+
 abbrev pub pull_over : Tables → List ℕ → Digest → Reply
 pull_over r name d = if is_some (artifact_at r name d) then commits r.audit told.Done (entry.Pulled name d) else gives (Tells told.Nothing)
 
 abbrev pub row_reply_ask : Ask → Tables → Notes → Reply
 row_reply_ask (ShowProject name) r n = show_row (project_at r name)
+row_reply_ask (TouchBlob name d) r n = touch_over r name d
 row_reply_ask (BeginUpload name) r n = begin_over r name
 row_reply_ask (EndUpload job upload) r n = end_over r job upload
 row_reply_ask (Seal upload d size) r n = seal_over r upload d size (upload_at r upload)
 row_reply_ask (SealManifest upload p) r n = seal_manifest_over r upload p
 row_reply_ask (Settle name upload d) r n = refuse (no_project_row r (project_of name)) (settle_over r name d (placement_of n upload d))
 row_reply_ask (PutArtifact upload p) r n = refuse (no_project_row r (project_of p.name)) (put_over r p (placement_of n upload p.digest))
+row_reply_ask (Look name ref) r n = look_over r name ref
 row_reply_ask (NotePull name d) r n = pull_over r name d
 
 -- ---- the other calls
@@ -86,11 +107,6 @@ drop_over r n upload false = if is_out n upload || is_some (upload_at r upload) 
 abbrev pub open_row : Option Assoc → Reply
 open_row None = refused BlobUnknown
 open_row (Some row) = gives (Content row.digest row.size None)
-
--- the artifact that a reference names
-abbrev pub row_named_by : Tables → List ℕ → Reference → Option Artifact
-row_named_by r name (reference.Tag tag) = option_and_then (λ row. artifact_at r name row.digest) (tag_at r name tag)
-row_named_by r name (reference.Digest d) = artifact_at r name d
 
 abbrev pub open_artifact_row : Option Artifact → Reply
 open_artifact_row None = refused ManifestUnknown

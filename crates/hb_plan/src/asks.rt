@@ -2,21 +2,22 @@
 ghost use Rattle.std.specs.Prelude.{◌≡◌, ◌≤◌, ℕ, List, Some};
 ghost use Rattle.std.specs.Option.{option_copied};
 ghost use Rattle.hb_text.specs.Names.{project_of};
+ghost use Rattle.hb_text.specs.declared.references.Reference.{Reference as Referring};
 ghost use Rattle.hb_records.specs.Entries.{LAST_MOMENT};
 ghost use Rattle.hb_rows.specs.Tables.{project_at, artifact_at, upload_at, blob_at};
 ghost use Rattle.hb_desk.specs.Reply.{refuse};
 ghost use Rattle.hb_plan.specs.Findings.{holding_of, parts_of};
 ghost use Rattle.hb_plan.specs.Plans.{Answers, IsStamped, IsOwn};
 ghost use Rattle.hb_plan.specs.RowRefusals.{no_project_row};
-ghost use Rattle.hb_plan.specs.RowReplies.{show_row, begin_over, end_over, seal_over, seal_manifest_over, settle_over, pull_over};
+ghost use Rattle.hb_plan.specs.RowReplies.{show_row, touch_over, begin_over, end_over, seal_over, seal_manifest_over, settle_over, row_named_by, look_over, pull_over};
 
-use crate::batches::{begun, ended, pulled_by, settled};
+use crate::batches::{begun, ended, pulled_by, settled, touched_by};
 use crate::deciding::{seals, seals_manifest, settles};
 use crate::planned::{Holding, Parts, Planned};
 use hb_desk::{Refusal, Told};
 use hb_model::changes::Stamp;
 use hb_records::{Artifact, Blob, Placement, Project, PutAsk, Upload};
-use hb_text::{Digest, Name, ProjectName};
+use hb_text::{Digest, Duplicate, Name, ProjectName};
 use std::alloc::Global;
 
 pub(crate) fn show(row: &Option<Project>, stamp: Stamp) -> Result<Planned, Refusal>
@@ -35,6 +36,29 @@ pub(crate) fn show(row: &Option<Project>, stamp: Stamp) -> Result<Planned, Refus
             batch: None,
         }),
     }
+}
+
+pub(crate) fn touch(
+    alloc: Global,
+    stamp: Stamp,
+    project: &ProjectName,
+    digest: &Digest,
+    held: &Holding,
+    blob: &Option<Blob>,
+) -> Result<Planned, Refusal>
+    requires { stamp.moment ≤ LAST_MOMENT }
+    ensures fits { (name : List ℕ) → project.now ≡ project_of name
+        → Answers (λ r. (holding_of r project.now digest.now ≡ held.now) × (blob_at r digest.now ≡ blob.now)) (λ r. touch_over r name digest.now) stamp.number stamp.moment result }
+    ensures stamped { IsStamped stamp.number stamp.moment result }
+    ensures own { IsOwn stamp.number result }
+{
+    if held.project.is_none() {
+        return Err(Refusal::NoProject);
+    }
+    let Some(pair) = &held.pair else {
+        return Err(Refusal::BlobUnknown);
+    };
+    touched_by(alloc, stamp, project, digest, pair.size, &held.pair, blob)
 }
 
 pub(crate) fn begin(
@@ -130,6 +154,33 @@ pub(crate) fn settle(
         Ok(size) => settled(alloc, stamp, project, digest, size, held),
         Err(refusal) => Err(refusal),
     }
+}
+
+// What a reference names, by the rows of its project and of the artifact.
+pub(crate) fn look(
+    alloc: Global,
+    stamp: Stamp,
+    project: &Option<Project>,
+    row: &Option<Artifact>,
+) -> Result<Planned, Refusal>
+    ensures fits { (name : List ℕ) (reference : Referring) → Answers (λ r. (project_at r (project_of name) ≡ project.now) × (row_named_by r name reference ≡ row.now)) (λ r. look_over r name reference) stamp.number stamp.moment result }
+    ensures stamped { IsStamped stamp.number stamp.moment result }
+    ensures own { IsOwn stamp.number result }
+{
+    if project.is_none() {
+        return Err(Refusal::NoProject);
+    }
+    let Some(row) = row else {
+        return Err(Refusal::ManifestUnknown);
+    };
+    Ok(Planned {
+        told: Told::Look {
+            digest: row.digest,
+            size: row.size,
+            media: row.media.copy(alloc)?,
+        },
+        batch: None,
+    })
 }
 
 pub(crate) fn pull(

@@ -3,7 +3,7 @@ ghost use Rattle.std.specs.Prelude.{◌≡◌, ◌≤◌, ◌++◌, ◌∷◌, I
 ghost use Rattle.hb_text.specs.Names.{project_of};
 ghost use Rattle.hb_records.specs.Entries.{LAST_MOMENT};
 ghost use Rattle.hb_records.specs.declared.entries.EntryKind.TheVariants as entry;
-ghost use Rattle.hb_rows.specs.Tables.{Tables, artifact_at};
+ghost use Rattle.hb_rows.specs.Tables.{Tables, artifact_at, blob_at, pair_at};
 ghost use Rattle.hb_model.specs.Changes.{changes_of};
 ghost use Rattle.hb_model.specs.ContentChanges.{associate_changes};
 ghost use Rattle.hb_model.specs.ArtifactChanges.{artifact_change, tag_changes, put_changes};
@@ -18,9 +18,11 @@ use crate::planned::{Holding, Planned};
 use hb_desk::{Refusal, Told};
 use hb_keeper::{KeepFault, Keeper};
 use hb_model::changes::{
-    Stamp, artifact_pushed, associated, pulled, tag_put, upload_begun, upload_ended,
+    Stamp, artifact_pushed, associated, pulled, tag_put, touched, upload_begun, upload_ended,
 };
-use hb_records::{Artifact, Batch, ChangeList, Entry, EntryKind, MAX_ENTRIES, Memory, PutAsk};
+use hb_records::{
+    Artifact, Assoc, Batch, Blob, ChangeList, Entry, EntryKind, MAX_ENTRIES, Memory, PutAsk,
+};
 use hb_text::{Digest, Duplicate, Name, ProjectName, Tag};
 use std::alloc::Global;
 
@@ -98,6 +100,29 @@ fn association(
     }
     let row = held.project.as_ref();
     associated(alloc, stamp, project, digest, size, row, held.pair.as_ref())
+}
+
+// A blob of a project is touched, by the rows of both. It has this size.
+pub(crate) fn touched_by(
+    alloc: Global,
+    stamp: Stamp,
+    project: &ProjectName,
+    digest: &Digest,
+    size: u64,
+    pair: &Option<Assoc>,
+    blob: &Option<Blob>,
+) -> Result<Planned, Refusal>
+    requires { stamp.moment ≤ LAST_MOMENT }
+    ensures fits { Commits (λ r. (pair_at r project.now digest.now ≡ pair.now) × (blob_at r digest.now ≡ blob.now)) (told.Blob size) (entry.Touched project.now digest.now) stamp.number stamp.moment result }
+    ensures stamped { IsStamped stamp.number stamp.moment result }
+    ensures own { IsOwn stamp.number result }
+{
+    let changes = touched(alloc, stamp, pair.as_ref(), blob.as_ref())?;
+    let kind = EntryKind::Touched {
+        project: project.copy(alloc)?,
+        digest: *digest,
+    };
+    planned(Told::Blob { size }, stamp, kind, changes)
 }
 
 // A project gets what was placed.

@@ -1,7 +1,7 @@
 //! What an ask finds in a keeper's rows.
-ghost use Rattle.std.specs.Prelude.{◌≡◌, ◌++◌, ℕ, List, is_some, IfOk, IfErr, IfSome, IsErrOf, OnOk};
+ghost use Rattle.std.specs.Prelude.{◌≡◌, ◌++◌, ℕ, List, is_some, IfOk, IfErr, IfSome, IsErrOf, OnOk, option_and_then};
 ghost use Rattle.std.specs.List.{find, flat_map};
-ghost use Rattle.hb_rows.specs.Tables.{Tables, pair_at, blob_at, artifact_at};
+ghost use Rattle.hb_rows.specs.Tables.{Tables, pair_at, blob_at, artifact_at, tag_at};
 ghost use Rattle.hb_model.specs.ArtifactEffects.{other_refs};
 ghost use Rattle.hb_model.specs.ContentChanges.{touch_changes};
 ghost use Rattle.hb_keeper.specs.Keeps.{KeepCause, Reads};
@@ -10,13 +10,14 @@ ghost use Rattle.hb_desk.specs.declared.refusals.Refusal.TheVariants.{Keeper as 
 ghost use Rattle.std.specs.Option.{option_copied};
 ghost use Rattle.hb_plan.specs.Findings.{holding_of, first_missing_ref, first_missing_child, parts_of};
 ghost use Rattle.hb_plan.specs.Plans.{IsPlanFault};
+ghost use Rattle.hb_plan.specs.RowReplies.{row_named_by};
 
 use crate::planned::{Holding, Parts};
 use hb_desk::Refusal;
 use hb_keeper::{KeepFault, Keeper};
 use hb_model::changes::{Stamp, touch};
-use hb_records::{Assoc, Blob, ChangeList, Memory, Placement, PutAsk};
-use hb_text::{Digest, Name, ProjectName};
+use hb_records::{Artifact, Assoc, Blob, ChangeList, Memory, Placement, PutAsk};
+use hb_text::{Digest, Name, ProjectName, Reference, Tag};
 use std::alloc::Global;
 
 // The answer of a keeper, with its fault as a refusal.
@@ -81,6 +82,39 @@ fn has_artifact<K: Keeper>(keeper: &mut K, name: &Name, digest: &Digest) -> Resu
     ensures cause { KeepCause (K.faults keeper.old) (K.faults keeper.new) result }
 {
     Ok(keeper.artifact(name, digest)?.is_some())
+}
+
+// The artifact that the tag names in the repository.
+fn artifact_by_tag<K: Keeper>(
+    keeper: &mut K,
+    name: &Name,
+    tag: &Tag,
+) -> Result<Option<Artifact>, KeepFault>
+    ensures told { Reads (K.rows keeper.old) result (λ t. option_and_then (λ row. artifact_at t name.now row.digest) (tag_at t name.now tag.now)) }
+    ensures rows { K.rows keeper.new ≡ K.rows keeper.old }
+    ensures cause { KeepCause (K.faults keeper.old) (K.faults keeper.new) result }
+{
+    match keeper.tag(name, tag)? {
+        Some(row) => keeper.artifact(name, &row.digest),
+        None => Ok(None),
+    }
+}
+
+/// The row of the artifact that the reference names in the repository. It takes one look-up for a digest, and two for a
+/// tag.
+pub fn find_artifact<K: Keeper>(
+    keeper: &mut K,
+    name: &Name,
+    reference: &Reference,
+) -> Result<Option<Artifact>, KeepFault>
+    ensures told { Reads (K.rows keeper.old) result (λ t. row_named_by t name.now reference.now) }
+    ensures rows { K.rows keeper.new ≡ K.rows keeper.old }
+    ensures cause { KeepCause (K.faults keeper.old) (K.faults keeper.new) result }
+{
+    match reference {
+        Reference::Tag(tag) => artifact_by_tag(keeper, name, tag),
+        Reference::Digest(digest) => keeper.artifact(name, digest),
+    }
 }
 
 // The first reference that the project hasn't.

@@ -22,5 +22,6 @@ mod plans;
 #[cfg(test)]
 mod tests;
 
+pub use finding::find_artifact;
 pub use planned::Planned;
 pub use plans::plan;

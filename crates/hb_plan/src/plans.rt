@@ -4,17 +4,17 @@ ghost use Rattle.hb_records.specs.Entries.{LAST_MOMENT};
 ghost use Rattle.hb_desk.specs.declared.asks.Ask.TheVariants as ask;
 ghost use Rattle.hb_plan.specs.Plans.{Plans, PlansAnyhow, IsStamped, PlanCause};
 
-use crate::asks::{begin, end, pull, seal, seal_manifest, settle, show};
+use crate::asks::{begin, end, look, pull, seal, seal_manifest, settle, show, touch};
 use crate::batches::{put_by, put_changes_of};
 use crate::deciding::puts;
-use crate::finding::{holding, parts, placement_of, told};
+use crate::finding::{find_artifact, holding, parts, placement_of, told};
 use crate::planned::Planned;
 use hb_desk::{Ask, Refusal};
 use hb_keeper::Keeper;
 use hb_model::changes::Stamp;
 use hb_model::names::project_name;
 use hb_records::{Placement, PutAsk};
-use hb_text::{Digest, Name, ProjectName};
+use hb_text::{Digest, Name, ProjectName, Reference};
 use std::alloc::Global;
 
 fn plan_show<K: Keeper>(
@@ -29,6 +29,25 @@ fn plan_show<K: Keeper>(
 {
     let row = told(keeper.project(name))?;
     show(&row, stamp)
+}
+
+fn plan_touch<K: Keeper>(
+    alloc: Global,
+    keeper: &mut K,
+    name: &Name,
+    digest: &Digest,
+    stamp: Stamp,
+) -> Result<Planned, Refusal>
+    requires { stamp.moment ≤ LAST_MOMENT }
+    ensures plan { PlansAnyhow (K.rows keeper.old) (ask.TouchBlob name.now digest.now) stamp.number stamp.moment result }
+    ensures rows { K.rows keeper.new ≡ K.rows keeper.old }
+    ensures cause { PlanCause stamp.number (K.faults keeper.old) (K.faults keeper.new) result }
+    ensures stamped { IsStamped stamp.number stamp.moment result }
+{
+    let project = project_name(alloc, name)?;
+    let held = told(holding(keeper, &project, digest))?;
+    let blob = told(keeper.blob(digest))?;
+    touch(alloc, stamp, &project, digest, &held, &blob)
 }
 
 fn plan_begin<K: Keeper>(
@@ -159,6 +178,24 @@ fn plan_put<K: Keeper>(
     put_by(alloc, stamp, put, size, told(changes)?)
 }
 
+fn plan_look<K: Keeper>(
+    alloc: Global,
+    keeper: &mut K,
+    name: &Name,
+    reference: &Reference,
+    stamp: Stamp,
+) -> Result<Planned, Refusal>
+    ensures plan { PlansAnyhow (K.rows keeper.old) (ask.Look name.now reference.now) stamp.number stamp.moment result }
+    ensures rows { K.rows keeper.new ≡ K.rows keeper.old }
+    ensures cause { PlanCause stamp.number (K.faults keeper.old) (K.faults keeper.new) result }
+    ensures stamped { IsStamped stamp.number stamp.moment result }
+{
+    let owner = project_name(alloc, name)?;
+    let project = told(keeper.project(&owner))?;
+    let row = told(find_artifact(keeper, name, reference))?;
+    look(alloc, stamp, &project, &row)
+}
+
 fn plan_pull<K: Keeper>(
     alloc: Global,
     keeper: &mut K,
@@ -201,6 +238,7 @@ pub fn plan<K: Keeper>(
     let stamp = Stamp { number, moment };
     match ask {
         Ask::ShowProject { name } => plan_show(keeper, name, stamp),
+        Ask::TouchBlob { name, digest } => plan_touch(alloc, keeper, name, digest, stamp),
         Ask::BeginUpload { name } => plan_begin(alloc, keeper, name, stamp),
         Ask::EndUpload { job, upload } => plan_end(alloc, keeper, *job, *upload, stamp),
         Ask::Seal {
@@ -219,6 +257,7 @@ pub fn plan<K: Keeper>(
         Ask::PutArtifact { upload, put } => {
             plan_put(alloc, keeper, placements, *upload, put, stamp)
         }
+        Ask::Look { name, reference } => plan_look(alloc, keeper, name, reference, stamp),
         Ask::NotePull { name, digest } => plan_pull(alloc, keeper, name, digest, stamp),
     }
 }

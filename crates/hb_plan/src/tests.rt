@@ -8,7 +8,7 @@ use hb_desk::{Ask, Refusal, Told};
 use hb_keeper::{Keeper, MemKeeper};
 use hb_model::changes::{Stamp, project_made};
 use hb_records::{Batch, DigestList, Entry, EntryKind, Listed, Placement, PutAsk};
-use hb_text::{Digest, Name, ProjectName, Tag, Text};
+use hb_text::{Digest, Name, ProjectName, Reference, Tag, Text};
 use std::alloc::Global;
 use std::process::Abort;
 use std::test::Fail;
@@ -446,6 +446,104 @@ fn a_manifest_is_refused_in_order_and_then_put(rt: HostRuntime) -> Result<(), Fa
     pulls(&rt, &mut keeper, alloc, 3)?;
     is_put(&rt, &mut keeper, alloc)?;
     shows(&rt, &mut keeper, alloc, b"library", Some((12, 12, 3)))
+}
+
+// A blob of the repository's project is touched, or the ask is refused.
+fn touches(
+    rt: &impl Abort,
+    keeper: &mut MemKeeper,
+    alloc: Global,
+    name: &[u8],
+    want: Option<Refusal>,
+) -> Result<(), Fail> {
+    let name = Name::read(alloc, name)?;
+    let digest = digest(1);
+    answers(rt, keeper, alloc, &Ask::TouchBlob { name, digest }, want)
+}
+
+// A project has a blob by any of its repositories.
+#[test]
+fn a_blob_is_touched_where_the_project_has_it(rt: HostRuntime) -> Result<(), Fail> {
+    let alloc = rt.alloc();
+    let mut keeper = opened(alloc, &[])?;
+    touches(
+        &rt,
+        &mut keeper,
+        alloc,
+        b"other/a",
+        Some(Refusal::NoProject),
+    )?;
+    touches(
+        &rt,
+        &mut keeper,
+        alloc,
+        b"library/a",
+        Some(Refusal::BlobUnknown),
+    )?;
+    settles(&rt, &mut keeper, alloc, b"library/a", 2, 1, None)?;
+    touches(&rt, &mut keeper, alloc, b"library/b", None)?;
+    assert_eq!(rt; blob_version(&mut keeper)?, Some(3));
+    assert_eq!(rt; keeper.rows().entries().len(), 3);
+    Ok(())
+}
+
+// What the reference names is told, or the ask is refused.
+fn looks(
+    rt: &impl Abort,
+    keeper: &mut MemKeeper,
+    alloc: Global,
+    name: &[u8],
+    reference: Reference,
+    want: Option<Refusal>,
+) -> Result<(), Fail> {
+    let name = Name::read(alloc, name)?;
+    answers(rt, keeper, alloc, &Ask::Look { name, reference }, want)
+}
+
+// By its tag or its digest. It makes no entry, and a blob isn't a manifest.
+#[test]
+fn a_manifest_is_looked_at_where_it_is(rt: HostRuntime) -> Result<(), Fail> {
+    let alloc = rt.alloc();
+    let mut keeper = opened(alloc, &[])?;
+    let unknown = Some(Refusal::ManifestUnknown);
+    let tag = Reference::Tag(Tag::read(alloc, b"v1")?);
+    looks(&rt, &mut keeper, alloc, b"library/a", tag, unknown)?;
+    settles(&rt, &mut keeper, alloc, b"library/a", 2, 1, None)?;
+    let whole: Manifest = (b"library/a", 2, (3, 2), &[1], &[]);
+    puts(&rt, &mut keeper, alloc, whole, None)?;
+    let tag = Reference::Tag(Tag::read(alloc, b"v1")?);
+    looks(&rt, &mut keeper, alloc, b"library/a", tag, None)?;
+    let named = Reference::Digest(digest(3));
+    looks(&rt, &mut keeper, alloc, b"library/a", named, None)?;
+    let elsewhere = Reference::Digest(digest(3));
+    looks(
+        &rt,
+        &mut keeper,
+        alloc,
+        b"library/b",
+        elsewhere,
+        Some(Refusal::ManifestUnknown),
+    )?;
+    let blob = Reference::Digest(digest(1));
+    looks(
+        &rt,
+        &mut keeper,
+        alloc,
+        b"library/a",
+        blob,
+        Some(Refusal::ManifestUnknown),
+    )?;
+    let other = Reference::Digest(digest(3));
+    looks(
+        &rt,
+        &mut keeper,
+        alloc,
+        b"other/a",
+        other,
+        Some(Refusal::NoProject),
+    )?;
+    assert_eq!(rt; keeper.rows().entries().len(), 3);
+    Ok(())
 }
 
 // What planning the put of manifest 3 as entry 3 is refused by.

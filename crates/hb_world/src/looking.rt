@@ -1,8 +1,8 @@
 //! What the events of a world look up in the rows.
-ghost use Rattle.std.specs.Prelude.{◌≡◌, ◌≤◌, is_some, IfErr, IfOk, IfSome, IsErrOf, option_and_then};
+ghost use Rattle.std.specs.Prelude.{◌≡◌, ◌≤◌, is_some, IfErr, IfOk, IfSome, IsErrOf};
 ghost use Rattle.hb_outside.specs.Causes.{Rose};
 ghost use Rattle.hb_text.specs.Names.{project_of};
-ghost use Rattle.hb_rows.specs.Tables.{artifact_at, pair_at, project_at, tag_at};
+ghost use Rattle.hb_rows.specs.Tables.{pair_at, project_at};
 ghost use Rattle.hb_desk.specs.declared.refusals.Refusal.TheVariants.{Keeper as KeeperFailed};
 ghost use Rattle.hb_plan.specs.Plans.{IsPlanFault};
 ghost use Rattle.hb_plan.specs.RowReplies.{row_named_by};
@@ -12,7 +12,7 @@ use hb_desk::Refusal;
 use hb_keeper::Keeper;
 use hb_model::names::project_name;
 use hb_records::{Artifact, Assoc, Memory};
-use hb_text::{Digest, Name, Reference, Tag};
+use hb_text::{Digest, Name, Reference};
 use std::alloc::Global;
 
 /// Whether the repository's project is there.
@@ -60,43 +60,6 @@ pub(crate) fn find_pair<K: Keeper>(
     }
 }
 
-// The row of the artifact with that digest in the repository.
-fn find_by_digest<K: Keeper>(
-    keeper: &mut K,
-    name: &Name,
-    digest: &Digest,
-) -> Result<Option<Artifact>, Refusal>
-    ensures told { IfSome (K.rows keeper.old) (λ r. IfOk result (λ row. row ≡ artifact_at r name.now digest.now)) }
-    ensures fault { IfErr result IsPlanFault }
-    ensures rows { K.rows keeper.new ≡ K.rows keeper.old }
-    ensures later { K.faults keeper.old ≤ K.faults keeper.new }
-    ensures keeper { IsErrOf result KeeperFailed → Rose (K.faults keeper.old) (K.faults keeper.new) }
-{
-    match keeper.artifact(name, digest) {
-        Ok(row) => Ok(row),
-        Err(fault) => Err(keep_refusal(fault)),
-    }
-}
-
-// The row of the artifact that the tag names in the repository.
-fn find_by_tag<K: Keeper>(
-    keeper: &mut K,
-    name: &Name,
-    tag: &Tag,
-) -> Result<Option<Artifact>, Refusal>
-    ensures told { IfSome (K.rows keeper.old) (λ r. IfOk result (λ row. row ≡ option_and_then (λ named. artifact_at r name.now named.digest) (tag_at r name.now tag.now))) }
-    ensures fault { IfErr result IsPlanFault }
-    ensures rows { K.rows keeper.new ≡ K.rows keeper.old }
-    ensures later { K.faults keeper.old ≤ K.faults keeper.new }
-    ensures keeper { IsErrOf result KeeperFailed → Rose (K.faults keeper.old) (K.faults keeper.new) }
-{
-    match keeper.tag(name, tag) {
-        Ok(Some(row)) => find_by_digest(keeper, name, &row.digest),
-        Ok(None) => Ok(None),
-        Err(fault) => Err(keep_refusal(fault)),
-    }
-}
-
 /// The row of the artifact that the reference names in the repository.
 pub(crate) fn find_artifact<K: Keeper>(
     keeper: &mut K,
@@ -109,8 +72,8 @@ pub(crate) fn find_artifact<K: Keeper>(
     ensures later { K.faults keeper.old ≤ K.faults keeper.new }
     ensures keeper { IsErrOf result KeeperFailed → Rose (K.faults keeper.old) (K.faults keeper.new) }
 {
-    match reference {
-        Reference::Tag(tag) => find_by_tag(keeper, name, tag),
-        Reference::Digest(digest) => find_by_digest(keeper, name, digest),
+    match hb_plan::find_artifact(keeper, name, reference) {
+        Ok(row) => Ok(row),
+        Err(fault) => Err(keep_refusal(fault)),
     }
 }

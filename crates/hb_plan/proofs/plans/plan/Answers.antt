@@ -18,3 +18,9 @@ returns-in-SealManifest-clause-plan g c = with-notes (g.K.Keeper.rows c.args.kee
 
 pub returns-in-NotePull-clause-plan : goal.returns-in-NotePull-clause-plan
 returns-in-NotePull-clause-plan g c = with-notes (g.K.Keeper.rows c.args.keeper.now) c.args.placements.now c.args.number c.args.moment c.plan_pull.result _ _ c.in-NotePull.is c.plan_pull.ensures.plan
+
+pub returns-in-TouchBlob-clause-plan : goal.returns-in-TouchBlob-clause-plan
+returns-in-TouchBlob-clause-plan g c = with-notes (g.K.Keeper.rows c.args.keeper.now) c.args.placements.now c.args.number c.args.moment c.plan_touch.result _ _ c.in-TouchBlob.is c.plan_touch.ensures.plan
+
+pub returns-in-Look-clause-plan : goal.returns-in-Look-clause-plan
+returns-in-Look-clause-plan g c = with-notes (g.K.Keeper.rows c.args.keeper.now) c.args.placements.now c.args.number c.args.moment c.plan_look.result _ _ c.in-Look.is c.plan_look.ensures.plan
