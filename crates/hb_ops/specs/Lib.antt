@@ -1,2 +1,3 @@
+pub mod Checks
 pub mod Errors
 pub mod Gets

@@ -20,7 +20,7 @@ use Rattle.hb_records.specs.declared.notes.Sealed.{Sealed}
 use Rattle.hb_desk.specs.Notes.{sealed_at}
 use Rattle.hb_desk.specs.Noting.{seal_of}
 use Rattle.hb_desk.specs.declared.asks.Ask.{Ask}
-use Rattle.hb_desk.specs.declared.asks.Ask.TheVariants.{ShowProject, BeginUpload, EndUpload, Seal, SealManifest, Settle, PutArtifact, NotePull}
+use Rattle.hb_desk.specs.declared.asks.Ask.TheVariants.{ShowProject, TouchBlob, BeginUpload, EndUpload, Seal, SealManifest, Settle, PutArtifact, Look, NotePull}
 use Rattle.hb_desk.specs.declared.told.Told.{Told}
 use Rattle.hb_upload.specs.Deciding.{decided, earlier, first_stop, or_pushed, refused_by, stops_at, unless_right}
 use Rattle.hb_upload.specs.Phases.{CalledAt, IsStageFault, OneEvent, PhaseFits, place_at}
@@ -204,6 +204,8 @@ of-twice u v (PutArtifact named put) = refl
 of-twice u v (ShowProject name) = refl
 of-twice u v (BeginUpload name) = refl
 of-twice u v (EndUpload job upload) = refl
+of-twice u v (TouchBlob name digest) = refl
+of-twice u v (Look name ref) = refl
 of-twice u v (NotePull name digest) = refl
 
 put-same : (u : ℕ) (ask : Ask) → put_of (of_upload u ask) ≡ put_of ask
@@ -214,6 +216,8 @@ put-same u (PutArtifact named put) = refl
 put-same u (ShowProject name) = refl
 put-same u (BeginUpload name) = refl
 put-same u (EndUpload job upload) = refl
+put-same u (TouchBlob name digest) = refl
+put-same u (Look name ref) = refl
 put-same u (NotePull name digest) = refl
 
 pub parcel-same : (g : Given) (u : ℕ) (seal : Ask) → parcel_of g (of_upload u seal) ≡ parcel_of g seal
@@ -250,4 +254,6 @@ seals-at (BeginUpload name) x told sealed is h = cc is
 seals-at (EndUpload job upload) x told sealed is h = cc is
 seals-at (Settle name upload d) x told sealed is h = cc is
 seals-at (PutArtifact upload put) x told sealed is h = cc is
+seals-at (TouchBlob name d) x told sealed is h = cc is
+seals-at (Look name ref) x told sealed is h = cc is
 seals-at (NotePull name d) x told sealed is h = cc is

@@ -1,10 +1,10 @@
-//! Gets over a desk on a store in memory, with ample memory.
-ghost use Rattle.std.specs.Prelude.{◌≡◌, ◌≤◌, false, IsErrOf};
+//! Gets and checks over a desk on a store in memory, with ample memory.
+ghost use Rattle.std.specs.Prelude.{◌≡◌, ◌≤◌, false, None, IsErrOf};
 ghost use Rattle.hb_outside.specs.Causes.{Rose};
 ghost use Rattle.hb_desk.specs.declared.refusals.Refusal.TheVariants.{Keeper, Storage, Spent};
 ghost use Rattle.hb_ops.specs.Gets.{PhaseFits, is_ended};
 
-use crate::{Get, Got};
+use crate::{Check, Checked, Get, Got};
 use hb_desk::{Ask, Desk, Op, Opened, Progress, Refusal, Staged, Told};
 use hb_records::{Listed, SealedList};
 use hb_store::{MemReader, MemStage, MemStore, Reader, Stage, Store, StoreFault};
@@ -61,6 +61,9 @@ impl Desk for StoreDesk {
                 self.noted = Some(*digest);
                 Ok(Told::Done)
             }
+            // every blob has three bytes, and no manifest is there
+            Ask::TouchBlob { .. } => Ok(Told::Blob { size: 3 }),
+            Ask::Look { .. } => Err(Refusal::ManifestUnknown),
             _ => Err(Refusal::Memory),
         }
     }
@@ -263,6 +266,49 @@ fn an_open_is_refused(rt: HostRuntime) -> Result<(), Fail> {
     let mut get = Get::manifest(alloc, name(alloc)?, Reference::Digest(digest))?;
     drive(&mut desk, &mut get);
     assert!(rt; is_refused(&get, &Refusal::Storage));
+    assert!(rt; desk.noted.is_none());
+    Ok(())
+}
+
+// How a check ends over a desk.
+fn checked<D: Desk>(desk: &mut D, mut check: Check) -> Option<Checked>
+    requires { check.ended ≡ None }
+{
+    let _done = check.step(desk, NOW);
+    check.into_end()
+}
+
+// A check reads nothing of the store, whose readers fail.
+#[test]
+fn a_blob_is_checked(rt: HostRuntime) -> Result<(), Fail> {
+    let alloc = rt.alloc();
+    let digest = Digest::of(b"abc");
+    let mut desk = desk(alloc, b"abc", &[1])?;
+    match checked(&mut desk, Check::blob(name(alloc)?, digest)) {
+        Some(
+            Checked::Content {
+                digest: found,
+                size,
+                media,
+            },
+        ) => assert_eq!(rt; (found, size, media.is_some()), (digest, 3, false)),
+        _ => return Err(Fail::new("no content")),
+    }
+    Ok(())
+}
+
+#[test]
+fn a_check_is_refused(rt: HostRuntime) -> Result<(), Fail> {
+    let alloc = rt.alloc();
+    let reference = Reference::Digest(Digest::of(b"{}"));
+    let mut desk = desk(alloc, b"{}", &[])?;
+    match checked(&mut desk, Check::manifest(name(alloc)?, reference)) {
+        Some(Checked::Refused { refusal, moment }) => {
+            assert_eq!(rt; refusal, Refusal::ManifestUnknown);
+            assert_eq!(rt; moment, NOW);
+        }
+        _ => return Err(Fail::new("not refused")),
+    }
     assert!(rt; desk.noted.is_none());
     Ok(())
 }

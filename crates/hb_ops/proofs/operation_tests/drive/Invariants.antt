@@ -1,6 +1,6 @@
 use Rattle.std.proofs.Common.{◌≡◌, false}
 use Rattle.hb_ops.specs.Gets.{PhaseFits, is_ended, left_of}
-use Rattle.hb_ops.proofs.get_tests.drive.Given as goal
+use Rattle.hb_ops.proofs.operation_tests.drive.Given as goal
 
 abbrev pub invariant-loop : goal.invariant-loop
 invariant-loop g l = record {
