@@ -16,6 +16,8 @@ use Rattle.hb_upload.specs.Pushes.{PushParts, Went}
 use Rattle.hb_upload.specs.declared.phase.Phase.{Phase}
 use Rattle.hb_upload.specs.declared.phase.Phase.TheVariants as phase
 use Rattle.hb_upload.specs.declared.phase.Stop.{Stop}
+use Rattle.hb_ops.specs.Checks.{CheckParts, LeadTo as CheckedBy, Went as CheckWent, decided as checked_by}
+use Rattle.hb_ops.specs.declared.checks.Checked.{Checked}
 use Rattle.hb_ops.specs.Errors.{ErrorForm, error_answer, plain}
 use Rattle.hb_ops.specs.Gets.{GetParts, HasDigest, LeadTo, PhaseFits as GetFits, Went as GetWent, decided as got_by, read_of}
 use Rattle.hb_ops.specs.declared.gets.Got.{Got}
@@ -24,10 +26,8 @@ use Rattle.hb_manifest.specs.Forms.{manifest_form}
 use Rattle.hb_manifest.specs.declared.manifests.ManifestFault.{ManifestFault}
 use Rattle.hb_manifest.specs.declared.manifests.ManifestFault.TheVariants as manifest
 use Rattle.hb_talk.specs.Driving.{Driven, IsRefused, Worked}
-use Rattle.hb_talk.specs.Tasks.{Task, got_answer, location_of, manifest_error, manifest_task, names_other, push_answer, task_of, unsupported, wrong_digest}
-use Rattle.hb_talk.specs.Tasks.Task.{Pushes, Gets, Refuses, Tells}
-use Rattle.hb_talk.specs.declared.wanted.Wanted.{Wanted}
-use Rattle.hb_talk.specs.declared.wanted.Wanted.TheVariants as wanted
+use Rattle.hb_talk.specs.Tasks.{Task, checked_answer, got_answer, location_of, manifest_error, manifest_task, names_other, push_answer, task_of, wrong_digest}
+use Rattle.hb_talk.specs.Tasks.Task.{Pushes, Gets, Checks, Refuses, Tells}
 use Rattle.hb_talk.specs.declared.wanted.Wanted.TheVariants.{PutManifest}
 
 -- ---- each status that is answered has a phrase
@@ -73,10 +73,6 @@ refused-form name r media body found a fault found_is same form is = record {
 -- the task that is pushed is the manifest's
 pub as-task : {E : Type 0} (Streams : Option Refusal → Type 0) (task task' : Task) (old new : View) (state : Option State) (result : Result Answer E) → task ≡ task' → IfSome state (λ s. Worked Streams task' old new result) → IfSome state (λ s. Worked Streams task old new result)
 as-task Streams task task' old new state result same worked = subst (λ task. IfSome state (λ s. Worked Streams task old new result)) (sym same) worked
-
-pub unbuilt-task : (w : Wanted) (media : Option (List ℕ)) (body : List ℕ) → (w ≡ wanted.Unbuilt) ⊎ (w ≡ wanted.InChunks) → task_of w media body ≡ Refuses unsupported
-unbuilt-task w media body (inl is) = ap (λ w. task_of w media body) is
-unbuilt-task w media body (inr is) = ap (λ w. task_of w media body) is
 
 pub refused-task : (E : Type 0) (Streams : Option Refusal → Type 0) (task : Task) (a : Answer) (v : View) (state : Option State) → IsRefused task a → IfSome state (λ s. Worked {E = E} Streams task v v (Ok a))
 refused-task E Streams task a v state is = as-task Streams task (Refuses is.error) v v state (Ok a) is.task_is (refused-worked Streams is.error v state (Ok a) is.answer_is)
@@ -138,6 +134,26 @@ get-worked Streams begun end old new (Some s) x (Ok a) driven ended is fits told
           makes = (x, subst (λ sought. LeadTo sought (get.Ended x) driven.points) went.same (subst (λ p. LeadTo end.sought p driven.points) ended went.lead));
           answers = answer ∙ ap (λ x. got_answer x) same;
           reads = subst (λ x. HasDigest old.told_bytes x) same (subst (λ told. HasDigest told x) told (subst (λ p. GetFits p new) ended fits));
+          streams = driven.streams;
+        },
+      );
+    }
+
+-- ---- a check
+pub check-worked : {E : Type 0} (Streams : Option Refusal → Type 0) (begun end : CheckParts) (old new : View) (state : Option State) (x : Checked) (result : Result Answer E) → IfSome state (λ s. Driven Streams old new (CheckWent begun end)) → end.ended ≡ Some x → ((points : List Point) → CheckWent begun end points → x ≡ checked_by begun.ask points) → IfOk result (λ a. a ≡ checked_answer x) → IfSome state (λ s. Worked Streams (Checks begun.ask) old new result)
+check-worked Streams begun end old new None x result driven ended is answer = tt
+check-worked Streams begun end old new (Some s) x (Err e) driven ended is answer = record { points = driven.points; chain = driven.chain; done = tt }
+check-worked Streams begun end old new (Some s) x (Ok a) driven ended is answer =
+    let went = driven.went in
+    record {
+      points = driven.points;
+      chain = driven.chain;
+      done = (
+        [],
+        record {
+          makes = (x, subst (λ ask. CheckedBy ask (Some x) driven.points) went.same (subst (λ ended. CheckedBy end.ask ended driven.points) ended went.lead));
+          answers = answer ∙ ap (λ x. checked_answer x) (is driven.points went);
+          reads = tt;
           streams = driven.streams;
         },
       );

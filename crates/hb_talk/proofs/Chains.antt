@@ -48,7 +48,7 @@ driven-none Streams start (Some s) Went went = record { points = []; chain = ref
 
 -- ---- the numbers of a desk
 pub moves-none : (v : View) → Moves v v
-moves-none v = record { keeper_later = omega arith; store_later = omega arith; entries = omega arith; rises = omega arith; sole = refl; told_bytes = refl }
+moves-none v = record { keeper_later = omega arith; store_later = omega arith; entries = omega arith; rises = omega arith; seat = λ h. h; sole = refl; told_bytes = refl }
 
 pub moves-on : (a b c : View) → Moves a b → Moves b c → Moves a c
 moves-on a b c one two = record {
@@ -56,6 +56,7 @@ moves-on a b c one two = record {
   store_later = omega (arith, one.store_later, two.store_later);
   entries = omega (arith, one.entries, two.entries);
   rises = omega (arith, one.rises, two.rises);
+  seat = λ h. two.seat (one.seat h);
   sole = two.sole ∙ one.sole;
   told_bytes = two.told_bytes ∙ one.told_bytes;
 }

@@ -1,6 +1,8 @@
 pub mod Answering
 pub mod Chains
+pub mod Cuts
 pub mod Lessening
+pub mod ReadBodies
 pub mod Requests
 pub mod Rests
 pub mod Served

@@ -1,5 +1,6 @@
 -- What was answered to a request that has come.
-use Rattle.std.proofs.Common.{◌≡◌, ℕ, Bool, true, List, [], Option, Some, None, Result, Ok, Err, IfSome, MatchBool, refl, sym, ap, subst, ◌∙◌}
+use Rattle.std.proofs.Common.{◌≡◌, ℕ, Bool, true, List, [], Option, Some, None, Result, Ok, Err, IfSome, MatchBool, refl, sym, ap, subst, ◌∙◌, inl, inr}
+use Rattle.hb_outside.specs.Streams.{WritesPart}
 use Rattle.hb_http.specs.Readings.{Given}
 use Rattle.hb_desk.specs.Chains.{Chain}
 use Rattle.hb_desk.specs.Clause.{View}
@@ -7,44 +8,48 @@ use Rattle.hb_desk.specs.Points.{Point}
 use Rattle.hb_desk.specs.State.{State}
 use Rattle.hb_desk.specs.declared.answers.Answer.{Answer}
 use Rattle.hb_desk.specs.declared.refusals.Refusal.{Refusal}
+use Rattle.hb_ops.specs.Errors.{error_answer}
+use Rattle.hb_talk.specs.Bodies.{IsLast, IsTooLong}
 use Rattle.hb_talk.specs.Driving.{Worked}
-use Rattle.hb_talk.specs.Progress.{NextTurn, Served}
-use Rattle.hb_talk.specs.Tasks.{Task, task_of}
+use Rattle.hb_talk.specs.Progress.{Answered, Comes, Fails, NextTurn, Served}
+use Rattle.hb_talk.specs.Tasks.{Task, task_of, too_long}
+use Rattle.hb_talk.specs.Tasks.Task.{Refuses}
 use Rattle.hb_talk.specs.Texts.{answer_text, as_asked}
-use Rattle.hb_talk.specs.Turns.{AnswersTo, IsDone, Turn}
-use Rattle.hb_talk.specs.Wanting.{IsBare, IsLast, Serves, keeps_body, media_of}
-use Rattle.hb_talk.specs.declared.wanted.Wanted.{Wanted}
-use Rattle.hb_talk.specs.declared.wanted.Wanted.TheVariants as wanted
-
--- what is done doesn't look at a body that isn't kept
-same-task : (w : Wanted) (media : Option (List ℕ)) (body content : List ℕ) → (keeps_body w ≡ true → body ≡ content) → task_of w media body ≡ task_of w media content
-same-task wanted.Base media body content same = refl
-same-task wanted.Unbuilt media body content same = refl
-same-task (wanted.Unrouted fault) media body content same = refl
-same-task wanted.TooLong media body content same = refl
-same-task wanted.InChunks media body content same = refl
-same-task (wanted.PushBlob name d) media body content same = ap (task_of (wanted.PushBlob name d) media) (same refl)
-same-task (wanted.GetBlob name d) media body content same = refl
-same-task (wanted.PutManifest name r) media body content same = ap (task_of (wanted.PutManifest name r) media) (same refl)
-same-task (wanted.GetManifest name r) media body content same = refl
+use Rattle.hb_talk.specs.Turns.{AnswersAtOnce, AnswersTo, AtOnce, Turn}
+use Rattle.hb_talk.specs.Wanting.{IsBare}
+use Rattle.hb_talk.specs.declared.coming.Coming.{Coming}
+use Rattle.hb_talk.specs.declared.ends.TalkEnd.{TalkEnd}
+use Rattle.hb_talk.specs.declared.ends.TalkEnd.TheVariants as end
+use Rattle.hb_talk.specs.declared.ends.Turned.TheVariants.{Ended}
+use Rattle.hb_talk.proofs.Wants.{closes-by}
 
 -- the task of what a request wants was done, and its answer told as the request asks
-pub served-task : (E : Type 0) (Streams : Option Refusal → Type 0) (g : Given) (w : Wanted) (media : Option (List ℕ)) (body : List ℕ) (bare : Bool) (full : Answer) (old new : View) (state : Option State) → Serves g.head w → media ≡ media_of g.head → MatchBool bare (IsBare g.head) (¬ (IsBare g.head)) → (keeps_body w ≡ true → body ≡ g.content) → IfSome state (λ s. Worked {E = E} Streams (task_of w media body) old new (Ok full)) → IfSome state (λ s. Served {E = E} Streams old new g (Ok (as_asked bare full)))
-served-task E Streams g w media body bare full old new None serves media_is bare_is body_is worked = tt
-served-task E Streams g w media body bare full old new (Some s) serves media_is bare_is body_is worked = record {
+pub served-task : (E : Type 0) (Streams : Option Refusal → Type 0) (g : Given) (c : Coming) (body : List ℕ) (full : Answer) (old new : View) (state : Option State) → Comes (Some c) (Some g) → body ≡ c.body.items → IfSome state (λ s. Worked {E = E} Streams (task_of c.wanted c.media body) old new (Ok full)) → IfSome state (λ s. Served {E = E} Streams old new g (Ok (as_asked c.bare full)))
+served-task E Streams g c body full old new None comes body_is worked = tt
+served-task E Streams g c body full old new (Some s) comes body_is worked = record {
   points = worked.points;
   chain = worked.chain;
   answers = (
     worked.done.0,
     (
-      w,
+      task_of c.wanted c.media body,
       full,
-      serves,
-      subst (λ task. IsDone Streams old.told_bytes task worked.points worked.done.0 full) (same-task w media body g.content body_is ∙ ap (λ media. task_of w media g.content) media_is) worked.done.1,
-      (bare, bare_is, refl),
+      inr (comes.2, c.wanted, comes.0.asks, ap (task_of c.wanted c.media) (body_is ∙ comes.1) ∙ ap (λ media. task_of c.wanted media g.content) comes.0.media),
+      worked.done.1,
+      (c.bare, comes.0.bare, refl),
     ),
   );
 }
+
+-- the same over every desk
+pub served-at-once : (g : Given) (c : Coming) (body : List ℕ) (full : Answer) → Comes (Some c) (Some g) → body ≡ c.body.items → AtOnce (task_of c.wanted c.media body) full → AnswersAtOnce g (as_asked c.bare full)
+served-at-once g c body full comes body_is at_once = (
+  task_of c.wanted c.media body,
+  full,
+  inr (comes.2, c.wanted, comes.0.asks, ap (task_of c.wanted c.media) (body_is ∙ comes.1) ∙ ap (λ media. task_of c.wanted media g.content) comes.0.media),
+  at_once,
+  (c.bare, comes.0.bare, refl),
+)
 
 pub unserved-task : {E : Type 0} (Streams : Option Refusal → Type 0) (g : Given) (task : Task) (old new : View) (state : Option State) (e : E) → IfSome state (λ s. Worked Streams task old new (Err e)) → IfSome state (λ s. Served Streams old new g (Err e))
 unserved-task Streams g task old new None e worked = tt
@@ -62,25 +67,53 @@ pub record TurnOf (Streams : Option Refusal → Type 0) (old new : View) (g : Gi
   pub closes_is : turn.closes ≡ closes
   pub answer_is : turn.answer ≡ answer
 
-pub turn-of : {E : Type 0} (Streams : Option Refusal → Type 0) (old new : View) (g : Given) (closes : Bool) (answer : Answer) (result : Result Answer E) → result ≡ Ok answer → MatchBool closes (IsLast g.head) (¬ (IsLast g.head)) → IfSome old.state (λ s. Served Streams old new g result) → TurnOf Streams old new g closes answer
-turn-of {E} Streams old new g closes answer result is last served = go old.state refl (subst (λ result. IfSome old.state (λ s. Served Streams old new g result)) is served)
+pub turn-of : (E : Type 0) (Streams : Option Refusal → Type 0) (old new : View) (g : Given) (c : Coming) (answer : Answer) → Comes (Some c) (Some g) → AnswersAtOnce g answer → IfSome old.state (λ s. Served {E = E} Streams old new g (Ok answer)) → TurnOf Streams old new g c.last answer
+turn-of E Streams old new g c answer comes at_once served = go old.state refl served
   where
-    go : (state : Option State) → old.state ≡ state → IfSome state (λ s. Served {E = E} Streams old new g (Ok answer)) → TurnOf Streams old new g closes answer
+    last : MatchBool c.last (IsLast g.head g.content) (¬ (IsLast g.head g.content))
+    last = closes-by g.head g.content c.last comes.0.closes comes.2
+
+    go : (state : Option State) → old.state ≡ state → IfSome state (λ s. Served {E = E} Streams old new g (Ok answer)) → TurnOf Streams old new g c.last answer
     go None none served = record {
-      turn = record { given = g; points = []; read = []; answer = answer; closes = closes };
-      next = record { given = refl; closes = last; desk = subst (λ state. IfSome state (λ s. Chain old [] new × AnswersTo Streams old.told_bytes g [] [] answer)) (sym none) tt };
+      turn = record { given = g; points = []; read = []; answer = answer; closes = c.last };
+      next = record { given = refl; is = record { closes = last; at_once = at_once }; desk = subst (λ state. IfSome state (λ s. Chain old [] new × AnswersTo Streams old.told_bytes g [] [] answer)) (sym none) tt };
       closes_is = refl;
       answer_is = refl;
     }
     go (Some s) some served = record {
-      turn = record { given = g; points = served.points; read = served.answers.0; answer = answer; closes = closes };
-      next = record { given = refl; closes = last; desk = subst (λ state. IfSome state (λ s. Chain old served.points new × AnswersTo Streams old.told_bytes g served.points served.answers.0 answer)) (sym some) (served.chain, served.answers.1) };
+      turn = record { given = g; points = served.points; read = served.answers.0; answer = answer; closes = c.last };
+      next = record { given = refl; is = record { closes = last; at_once = at_once }; desk = subst (λ state. IfSome state (λ s. Chain old served.points new × AnswersTo Streams old.told_bytes g served.points served.answers.0 answer)) (sym some) (served.chain, served.answers.1) };
       closes_is = refl;
       answer_is = refl;
     }
 
 -- its text is what was written, or a part of that
-pub turn-text : (Wrote : List ℕ → Type 0) (t : Turn) (closes : Bool) (answer : Answer) (text : List ℕ) → t.closes ≡ closes → t.answer ≡ answer → text ≡ answer_text closes answer → Wrote text → Wrote (answer_text t.closes t.answer)
-turn-text Wrote t closes answer text closes_is answer_is is wrote = subst Wrote (is ∙ (ap (λ b. answer_text b answer) (sym closes_is) ∙ ap (answer_text t.closes) (sym answer_is))) wrote
+pub turn-text : {Streams : Option Refusal → Type 0} {old new : View} {g : Given} {closes : Bool} {answer : Answer} (Wrote : List ℕ → Type 0) (t : TurnOf Streams old new g closes answer) → Wrote (answer_text closes answer) → Wrote (answer_text t.turn.closes t.turn.answer)
+turn-text {closes = closes} {answer = answer} Wrote t wrote = subst Wrote (ap (λ b. answer_text b answer) (sym t.closes_is) ∙ ap (answer_text t.turn.closes) (sym t.answer_is)) wrote
 
--- ---- a read
+-- why a text wasn't written
+pub fails-by : (Ends : TalkEnd → Type 0) (text : List ℕ) (held held' : Option (List ℕ)) (e : TalkEnd) → Fails text held held' e → (WritesPart held held' text → Ends end.WriteFault) → (held' ≡ held → Ends end.Memory) → Ends e
+fails-by Ends text held held' end.WriteFault fails part same = part fails
+fails-by Ends text held held' end.Memory fails part same = same fails
+fails-by Ends text held held' end.Closed fails part same = absurd fails
+fails-by Ends text held held' end.Cut fails part same = absurd fails
+fails-by Ends text held held' end.Bad fails part same = absurd fails
+fails-by Ends text held held' end.Long fails part same = absurd fails
+fails-by Ends text held held' end.ReadFault fails part same = absurd fails
+
+-- what an answer that wasn't written makes of desk and sink
+pub answered-fails : (Streams : Option Refusal → Type 0) (old new : View) (g : Given) (closes : Bool) (answer : Answer) (held held' : Option (List ℕ)) (e : TalkEnd) → TurnOf Streams old new g closes answer → IfSome old.state (λ s. (points : List Point) × Chain old points new) → Fails (answer_text closes answer) held held' e → Answered Streams old new held held' g (Ended e)
+answered-fails Streams old new g closes answer held held' e t chain fails =
+    fails-by (λ e. Answered Streams old new held held' g (Ended e)) (answer_text closes answer) held held' e fails (λ part. (t.turn, t.next, turn-text (WritesPart held held') t part)) (λ same. (chain, same))
+
+-- a request that is too long is refused without an event
+pub refused-turn : (Streams : Option Refusal → Type 0) (v : View) (g : Given) (bare : Bool) → IsTooLong g.head g.content → MatchBool bare (IsBare g.head) (¬ (IsBare g.head)) → NextTurn Streams v v g (record { given = g; points = []; read = []; answer = as_asked bare (error_answer too_long); closes = true })
+refused-turn Streams v g bare long bare_is = record {
+  given = refl;
+  is = record { closes = inr long; at_once = (Refuses too_long, error_answer too_long, inl (long, refl), λ _. refl, (bare, bare_is, refl)) };
+  desk = go v.state;
+}
+  where
+    go : (state : Option State) → IfSome state (λ s. Chain v [] v × AnswersTo Streams v.told_bytes g [] [] (as_asked bare (error_answer too_long)))
+    go None = tt
+    go (Some s) = (refl, (Refuses too_long, error_answer too_long, inl (long, refl), record { makes = refl; answers = refl; reads = tt; streams = tt }, (bare, bare_is, refl)))

@@ -8,7 +8,7 @@ use Rattle.hb_desk.specs.Clause.{Between, Causes, EventOf, View, moves_seal}
 use Rattle.hb_desk.specs.Notes.{is_sealed, sealed_at}
 use Rattle.hb_desk.specs.Noting.{seal_of}
 use Rattle.hb_desk.specs.declared.asks.Ask.{Ask}
-use Rattle.hb_desk.specs.declared.asks.Ask.TheVariants.{ShowProject, BeginUpload, EndUpload, Seal, SealManifest, Settle, PutArtifact, NotePull}
+use Rattle.hb_desk.specs.declared.asks.Ask.TheVariants.{ShowProject, TouchBlob, BeginUpload, EndUpload, Seal, SealManifest, Settle, PutArtifact, Look, NotePull}
 use Rattle.hb_desk.proofs.Interleave.{one-between}
 
 pub none-sealed : (upload : ℕ) (own : List Sealed) → list_any (is_sealed upload) own ≡ false → sealed_at upload own ≡ None
@@ -41,6 +41,8 @@ unmoved-by (SealManifest upload put) (Ok gave) x u is apart = subst (λ (o : Opt
 unmoved-by (SealManifest upload put) (Err refusal) x u is apart = refl
 unmoved-by (Settle name upload d) outcome x u is apart = refl
 unmoved-by (PutArtifact upload put) outcome x u is apart = refl
+unmoved-by (TouchBlob name d) outcome x u is apart = refl
+unmoved-by (Look name ref) outcome x u is apart = refl
 unmoved-by (NotePull name d) outcome x u is apart = refl
 
 pub sealing-between : (own : List Sealed) (old new : View) (now : ℕ) (ask : Ask) (outcome : Outcome) (x : Sealed) → seal_of ask ≡ Some x → sealed_at x.upload own ≡ None → old.spent ≡ false → new.spent ≡ false → EventOf old new (Asked ask) outcome → Causes old new now (Asked ask) outcome → Between own old new

@@ -1,9 +1,10 @@
 -- What a turn makes of a talk.
 use Rattle.std.proofs.Common.{◌≡◌, ◌≢◌, ◌≤◌, ◌+◌, ◌^◌, ℕ, Bool, true, false, List, [], ◌∷◌, ◌++◌, length, Option, Some, None, IfSome, MatchBool, refl, sym, ap, subst, ◌∙◌, inl, inr, arith, append_assoc, append-nil, length-append}
+use Rattle.std.specs.List.{AllByRecursion}
 use Rattle.hb_outside.specs.Streams.{Gives, Writes, WritesPart}
 use Rattle.hb_http.specs.Heads.{HasTooManyHeaders, IsHeadTooLong}
 use Rattle.hb_http.specs.Parts.{HoldsNoPart, IsBad}
-use Rattle.hb_http.specs.Readings.{AreRequests, Given, HasRead, IsBegun, IsBodyText}
+use Rattle.hb_http.specs.Readings.{Given, HasRead, IsBegun}
 use Rattle.hb_http.specs.Requests.{HasNoRequest, Request, RequestsOf}
 use Rattle.hb_http.specs.Standing.{Standing}
 use Rattle.hb_http.specs.declared.places.Place.{Place}
@@ -15,19 +16,23 @@ use Rattle.hb_desk.specs.Clause.{View}
 use Rattle.hb_desk.specs.Points.{Point}
 use Rattle.hb_desk.specs.State.{State}
 use Rattle.hb_desk.specs.declared.refusals.Refusal.{Refusal}
-use Rattle.hb_talk.specs.Progress.{Comes, NextTurn, Progress, Reads, TalkParts}
-use Rattle.hb_talk.specs.Talks.{AtDesk, BeginWith, Closes, HasCause, HasRefusal, IsMalformedRest, IsOverLimits, Moment, RefusesRest, Talked, Unanswered, Wrote}
+use Rattle.hb_talk.specs.Bodies.{AreRequests, Closes, IsLast, IsReadText, IsTooLong}
+use Rattle.hb_talk.specs.Progress.{Comes, GoesOn, NextTurn, Progress, Reads, RefusesLong, TalkParts, too_long_text}
+use Rattle.hb_talk.specs.Talks.{AtDesk, HasCause, HasRefusal, IsMalformedRest, IsOverLimits, Moment, RefusesRest, Talked, Unanswered, Wrote}
 use Rattle.hb_talk.specs.Talks as talks
 use Rattle.hb_talk.specs.Texts.{answer_text}
-use Rattle.hb_talk.specs.Turns.{Answers, ClosesBy, Turn, given_by, points_of, turns_text}
-use Rattle.hb_talk.specs.Wanting.{IsLast}
+use Rattle.hb_talk.specs.Turns.{Answers, IsTurn, Turn, given_by, points_of, turns_text}
+use Rattle.hb_talk.specs.Wanting.{IsBare}
 use Rattle.hb_talk.specs.declared.coming.Coming.{Coming}
 use Rattle.hb_talk.specs.declared.ends.TalkEnd.{TalkEnd}
 use Rattle.hb_talk.specs.declared.ends.TalkEnd.TheVariants as end
+use Rattle.hb_talk.specs.declared.ends.Turned.{Turned}
 use Rattle.hb_talk.specs.declared.ends.Turned.TheVariants.{More, Ended}
 use Rattle.hb_talk.proofs.Chains.{chain-append, chain-bytes, chain-told}
-use Rattle.hb_talk.proofs.Requests.{all-of, all-to-last, begun-some, front-of}
-use Rattle.hb_talk.proofs.Rests.{malformed-rest, many-none, rest-bad, rest-none}
+use Rattle.hb_talk.proofs.Requests.{OneMore, StaysOpen, all-and, all-of, all-open, begun-some, front-and, front-of}
+use Rattle.hb_talk.proofs.Cuts.{rest-open}
+use Rattle.hb_talk.proofs.Rests.{IsShort, malformed-rest, many-none, rest-bad, rest-none}
+use Rattle.hb_talk.proofs.Served.{fails-by, refused-turn}
 use Rattle.hb_talk.proofs.Streams.{Gives-append, Gives-none, Writes-append, Writes-none, WritesPart-append}
 
 -- ---- lists of turns
@@ -54,7 +59,7 @@ progress-start Streams now talk fresh coming taken = record {
   reads = subst (λ (s : Standing). HasRead [] None [] s.place) (sym fresh) (record { whole = []; begun = []; text = refl; are_whole = refl; is_begun = refl });
   comes = subst (λ c. Comes c None) (sym coming) tt;
   open_ = tt;
-  closes = tt;
+  each = tt;
   written = Writes-none now.held;
   ended = λ closed. let both : false ≡ true = sym (ap (λ (s : Standing). s.closed) fresh) ∙ closed in cc both;
   desk = none now.view.state;
@@ -64,10 +69,20 @@ progress-start Streams now talk fresh coming taken = record {
     none None = tt
     none (Some s) = record { chain = refl; answers = tt }
 
+-- the request that comes isn't too long
+pub short-so-far : (coming : Option Coming) (given : Option Given) → Comes coming given → IsShort given
+short-so-far coming None comes = tt
+short-so-far None (Some g) comes = absurd comes
+short-so-far (Some c) (Some g) comes = comes.2
+
 -- ---- a part of a request
 module _ (Streams : Option Refusal → Type 0) (start now : Moment) (talk : TalkParts) (so_far : Progress Streams start now talk) where
+  -- its turns left the connection open
+  stay-open : AllByRecursion StaysOpen (given_by so_far.turns)
+  stay-open = all-open so_far.turns so_far.open_ so_far.each
+
   -- the bytes that have come are the same, however many of them were taken apart
-  came : (gone : List ℕ) (s' : Standing) → talk.standing.waiting ≡ gone ++ s'.waiting → (so_far.gone ++ gone) ++ s'.waiting ≡ so_far.gone ++ talk.standing.waiting
+  pub came : (gone : List ℕ) (s' : Standing) → talk.standing.waiting ≡ gone ++ s'.waiting → (so_far.gone ++ gone) ++ s'.waiting ≡ so_far.gone ++ talk.standing.waiting
   came gone s' text = append_assoc so_far.gone gone s'.waiting ∙ ap (λ b. so_far.gone ++ b) (sym text)
 
   -- the session took a part that ended no request
@@ -81,7 +96,7 @@ module _ (Streams : Option Refusal → Type 0) (start now : Moment) (talk : Talk
     reads = reads;
     comes = comes;
     open_ = so_far.open_;
-    closes = so_far.closes;
+    each = so_far.each;
     written = so_far.written;
     ended = λ is. so_far.ended (sym closed ∙ is);
     desk = so_far.desk;
@@ -98,7 +113,7 @@ module _ (Streams : Option Refusal → Type 0) (start now : Moment) (talk : Talk
     reads = so_far.reads;
     comes = so_far.comes;
     open_ = so_far.open_;
-    closes = so_far.closes;
+    each = so_far.each;
     written = so_far.written;
     ended = λ is. closed.1;
     desk = so_far.desk;
@@ -115,7 +130,7 @@ module _ (Streams : Option Refusal → Type 0) (start now : Moment) (talk : Talk
         reads = so_far.reads;
         comes = so_far.comes;
         open_ = so_far.open_;
-        closes = so_far.closes;
+        each = so_far.each;
         written = so_far.written;
         ended = λ is. came.3 ∙ so_far.ended is;
         desk = so_far.desk;
@@ -132,9 +147,9 @@ module _ (Streams : Option Refusal → Type 0) (start now : Moment) (talk : Talk
   few most = subst (λ n. n ≤ 2 ^ 62) so_far.count most
 
   -- no further request stands in the bytes
-  ended-none : (e : TalkEnd) → talk.taken ≤ 2 ^ 62 → HasNoRequest IsBodyText rest → ((rs : List Request) → RequestsOf IsBodyText Closes bytes rs rest → talks.Reads e bytes rs rest) → (Writes start.held now.held (turns_text so_far.turns) → Wrote e start.held now.held (turns_text so_far.turns)) → HasCause e now.ended bytes so_far.turns rest → Unanswered e [] → HasRefusal e rest None → Talked Streams start now e
+  ended-none : (e : TalkEnd) → talk.taken ≤ 2 ^ 62 → HasNoRequest IsReadText rest → ((rs : List Request) → RequestsOf IsReadText Closes bytes rs rest → talks.Reads e bytes rs rest) → (Writes start.held now.held (turns_text so_far.turns) → Wrote e start.held now.held (turns_text so_far.turns)) → HasCause e now.ended bytes so_far.turns rest → Unanswered e [] → HasRefusal e rest None → Talked Streams start now e
   ended-none e most none reads wrote cause left refused =
-      let all = all-of so_far.turns so_far.given so_far.gone talk.standing.waiting talk.standing.place so_far.reads so_far.open_ so_far.closes none in
+      let all = all-of (given_by so_far.turns) so_far.given so_far.gone talk.standing.waiting talk.standing.place stay-open so_far.reads none in
       record {
         turns = so_far.turns;
         requests = all.requests;
@@ -145,7 +160,7 @@ module _ (Streams : Option Refusal → Type 0) (start now : Moment) (talk : Talk
         few = few most;
         given = all.given;
         reads = reads all.requests all.reads;
-        closes = so_far.closes;
+        each = so_far.each;
         refusal = None;
         written = wrote so_far.written;
         refused = refused;
@@ -155,9 +170,9 @@ module _ (Streams : Option Refusal → Type 0) (start now : Moment) (talk : Talk
       }
 
   -- a rest that is refused
-  pub refused-ends : (held : Option (List ℕ)) (text : List ℕ) → talk.taken ≤ 2 ^ 62 → HasNoRequest IsBodyText rest → RefusesRest rest text → Writes now.held held text → Talked Streams start (record { view = now.view; left = now.left; ended = now.ended; held = held }) end.Bad
+  pub refused-ends : (held : Option (List ℕ)) (text : List ℕ) → talk.taken ≤ 2 ^ 62 → HasNoRequest IsReadText rest → RefusesRest rest text → Writes now.held held text → Talked Streams start (record { view = now.view; left = now.left; ended = now.ended; held = held }) end.Bad
   refused-ends held text most none refuses writes =
-      let all = all-of so_far.turns so_far.given so_far.gone talk.standing.waiting talk.standing.place so_far.reads so_far.open_ so_far.closes none in
+      let all = all-of (given_by so_far.turns) so_far.given so_far.gone talk.standing.waiting talk.standing.place stay-open so_far.reads none in
       record {
         turns = so_far.turns;
         requests = all.requests;
@@ -168,7 +183,7 @@ module _ (Streams : Option Refusal → Type 0) (start now : Moment) (talk : Talk
         few = few most;
         given = all.given;
         reads = all.reads;
-        closes = so_far.closes;
+        each = so_far.each;
         refusal = Some text;
         written = Writes-append start.held now.held held (turns_text so_far.turns) text so_far.written writes;
         refused = refuses;
@@ -179,7 +194,7 @@ module _ (Streams : Option Refusal → Type 0) (start now : Moment) (talk : Talk
 
   pub refused-part : (held : Option (List ℕ)) (text : List ℕ) → talk.taken ≤ 2 ^ 62 → RefusesRest rest text → WritesPart now.held held text → Talked Streams start (record { view = now.view; left = now.left; ended = now.ended; held = held }) end.WriteFault
   refused-part held text most refuses part =
-      let front = front-of (given_by so_far.turns) so_far.given so_far.gone talk.standing.waiting talk.standing.place so_far.reads in
+      let front = front-of (given_by so_far.turns) so_far.given so_far.gone talk.standing.waiting talk.standing.place stay-open so_far.reads in
       record {
         turns = so_far.turns;
         requests = front.requests;
@@ -190,7 +205,7 @@ module _ (Streams : Option Refusal → Type 0) (start now : Moment) (talk : Talk
         few = few most;
         given = front.given;
         reads = front.begin;
-        closes = so_far.closes;
+        each = so_far.each;
         refusal = Some text;
         written = WritesPart-append start.held now.held held (turns_text so_far.turns) text so_far.written part;
         refused = refuses;
@@ -208,26 +223,26 @@ module _ (Streams : Option Refusal → Type 0) (start now : Moment) (talk : Talk
       nothing (Some g) is = absurd is
 
   -- why a rest is refused
-  pub bad-rest : IsBad talk.standing.place talk.standing.waiting → HasNoRequest IsBodyText rest × IsMalformedRest rest
+  pub bad-rest : IsBad talk.standing.place talk.standing.waiting → HasNoRequest IsReadText rest × IsMalformedRest rest
   bad-rest bad = (
-    rest-bad talk.standing.place so_far.given so_far.reads.begun talk.standing.waiting so_far.reads.is_begun bad,
+    rest-bad talk.standing.place so_far.given so_far.reads.begun talk.standing.waiting (short-so-far talk.coming so_far.given so_far.comes) so_far.reads.is_begun bad,
     malformed-rest talk.standing.place so_far.given so_far.reads.begun talk.standing.waiting so_far.reads.is_begun bad,
   )
 
-  pub many-rest : talk.standing.place ≡ Between → HasTooManyHeaders talk.standing.waiting → HasNoRequest IsBodyText rest × IsOverLimits rest
-  many-rest at many = (subst (HasNoRequest IsBodyText) (sym (rest-waits at)) (many-none talk.standing.waiting many), subst IsOverLimits (sym (rest-waits at)) (inl many))
+  pub many-rest : talk.standing.place ≡ Between → HasTooManyHeaders talk.standing.waiting → HasNoRequest IsReadText rest × IsOverLimits rest
+  many-rest at many = (subst (HasNoRequest IsReadText) (sym (rest-waits at)) (many-none talk.standing.waiting many), subst IsOverLimits (sym (rest-waits at)) (inl many))
 
-  pub long-rest : talk.standing.place ≡ Between → IsHeadTooLong talk.standing.waiting → HasNoRequest IsBodyText rest × IsOverLimits rest
-  long-rest at long = (subst (HasNoRequest IsBodyText) (sym (rest-waits at)) (HasNoHead-no_request IsBodyText talk.standing.waiting long.1), subst IsOverLimits (sym (rest-waits at)) (inr long))
+  pub long-rest : talk.standing.place ≡ Between → IsHeadTooLong talk.standing.waiting → HasNoRequest IsReadText rest × IsOverLimits rest
+  long-rest at long = (subst (HasNoRequest IsReadText) (sym (rest-waits at)) (HasNoHead-no_request IsReadText talk.standing.waiting long.1), subst IsOverLimits (sym (rest-waits at)) (inr long))
 
-  none-left : HoldsNoPart talk.standing.place talk.standing.waiting → HasNoRequest IsBodyText rest
-  none-left none = rest-none talk.standing.place so_far.given so_far.reads.begun talk.standing.waiting so_far.reads.is_begun none
+  none-left : HoldsNoPart talk.standing.place talk.standing.waiting → HasNoRequest IsReadText rest
+  none-left none = rest-none talk.standing.place so_far.given so_far.reads.begun talk.standing.waiting (short-so-far talk.coming so_far.given so_far.comes) so_far.reads.is_begun none
 
   pub input-ends : talk.taken ≤ 2 ^ 62 → talk.standing.closed ≡ true → HoldsNoPart talk.standing.place talk.standing.waiting → talk.standing.place ≡ Between → talk.standing.waiting ≡ [] → Talked Streams start now end.Closed
   input-ends most closed none at empty = ended-none end.Closed most (none-left none) (λ rs h. h) (λ h. h) (rest-waits at ∙ empty, inl (so_far.ended closed)) refl tt
 
   pub cut-ends : talk.taken ≤ 2 ^ 62 → talk.standing.closed ≡ true → (talk.standing.place ≡ Between → talk.standing.waiting ≢ []) → HoldsNoPart talk.standing.place talk.standing.waiting → Talked Streams start now end.Cut
-  cut-ends most closed some none = ended-none end.Cut most (none-left none) (λ rs h. h) (λ h. h) (left, so_far.ended closed) refl tt
+  cut-ends most closed some none = ended-none end.Cut most (none-left none) (λ rs h. h) (λ h. h) (left, so_far.ended closed, rest-open talk.standing.place so_far.given so_far.reads.begun talk.standing.waiting so_far.reads.is_begun none) refl tt
     where
       front-nil : (a b : List ℕ) → a ++ b ≡ [] → a ≡ []
       front-nil [] b is = refl
@@ -270,7 +285,7 @@ module _ (Streams : Option Refusal → Type 0) (start now : Moment) (talk : Talk
 
   pub memory-ends : (view : View) (held : Option (List ℕ)) → talk.taken ≤ 2 ^ 62 → IfSome now.view.state (λ s. (points : List Point) × Chain now.view points view) → held ≡ now.held → Talked Streams start (record { view = view; left = now.left; ended = now.ended; held = held }) end.Memory
   memory-ends view held most made same =
-      let front = front-of (given_by so_far.turns) so_far.given so_far.gone talk.standing.waiting talk.standing.place so_far.reads in
+      let front = front-of (given_by so_far.turns) so_far.given so_far.gone talk.standing.waiting talk.standing.place stay-open so_far.reads in
       let desk = left-at view made in
       record {
         turns = so_far.turns;
@@ -282,7 +297,7 @@ module _ (Streams : Option Refusal → Type 0) (start now : Moment) (talk : Talk
         few = few most;
         given = front.given;
         reads = front.begin;
-        closes = so_far.closes;
+        each = so_far.each;
         refusal = None;
         written = subst (λ held. Writes start.held held (turns_text so_far.turns)) (sym same) so_far.written;
         refused = tt;
@@ -292,15 +307,15 @@ module _ (Streams : Option Refusal → Type 0) (start now : Moment) (talk : Talk
       }
 
   -- where nothing was done at the desk
-  pub memory-here : talk.taken ≤ 2 ^ 62 → Talked Streams start now end.Memory
-  memory-here most = memory-ends now.view now.held most (go now.view.state) refl
+  pub memory-here : (held : Option (List ℕ)) → talk.taken ≤ 2 ^ 62 → held ≡ now.held → Talked Streams start (record { view = now.view; left = now.left; ended = now.ended; held = held }) end.Memory
+  memory-here held most same = memory-ends now.view held most (go now.view.state) same
     where
       go : (state : Option State) → IfSome state (λ s. (points : List Point) × Chain now.view points now.view)
       go None = tt
       go (Some s) = ([], refl)
 
   -- ---- an answer
-  module _ (g : Given) (t : Turn) (view : View) (held : Option (List ℕ)) (gone : List ℕ) (s' : Standing) (text : talk.standing.waiting ≡ gone ++ s'.waiting) (reads : HasRead (given_by so_far.turns ++ g ∷ []) None (so_far.gone ++ gone) s'.place) (next : NextTurn Streams now.view view g t) where
+  module _ (g : Given) (t : Turn) (view : View) (held : Option (List ℕ)) (next : NextTurn Streams now.view view g t) where
     abbrev turns' : List Turn
     turns' = so_far.turns ++ t ∷ []
 
@@ -323,35 +338,32 @@ module _ (Streams : Option Refusal → Type 0) (start now : Moment) (talk : Talk
     written-next : Writes now.held held (answer_text t.closes t.answer) → Writes start.held held (turns_text turns')
     written-next writes = subst (Writes start.held held) (sym (turns_text-push so_far.turns t)) (Writes-append start.held now.held held (turns_text so_far.turns) (answer_text t.closes t.answer) so_far.written writes)
 
-    bytes-same : (so_far.gone ++ gone) ++ s'.waiting ≡ bytes
-    bytes-same = came gone s' text
-
-    pub answered-on : t.closes ≡ false → Writes now.held held (answer_text t.closes t.answer) → s'.closed ≡ talk.standing.closed → Progress Streams start (record { view = view; left = now.left; ended = now.ended; held = held }) (record { standing = s'; coming = None; taken = talk.taken })
-    answered-on open_ writes closed = record {
+    pub answered-on : (gone : List ℕ) (s' : Standing) → talk.standing.waiting ≡ gone ++ s'.waiting → HasRead (given_by so_far.turns ++ g ∷ []) None (so_far.gone ++ gone) s'.place → t.closes ≡ false → Writes now.held held (answer_text t.closes t.answer) → s'.closed ≡ talk.standing.closed → Progress Streams start (record { view = view; left = now.left; ended = now.ended; held = held }) (record { standing = s'; coming = None; taken = talk.taken })
+    answered-on gone s' text reads open_ writes closed = record {
       turns = turns';
       given = None;
       gone = so_far.gone ++ gone;
-      gives = subst (λ b. Gives start.left now.left b) (sym bytes-same) so_far.gives;
-      count = so_far.count ∙ ap (λ b. length b) (sym bytes-same);
+      gives = subst (λ b. Gives start.left now.left b) (sym (came gone s' text)) so_far.gives;
+      count = so_far.count ∙ ap (λ b. length b) (sym (came gone s' text));
       reads = subst (λ gs. HasRead gs None (so_far.gone ++ gone) s'.place) given-is reads;
       comes = tt;
       open_ = all_push (λ t. t.closes ≡ false) so_far.turns t so_far.open_ open_;
-      closes = all_push ClosesBy so_far.turns t so_far.closes next.closes;
+      each = all_push IsTurn so_far.turns t so_far.each next.is;
       written = written-next writes;
       ended = λ is. so_far.ended (sym closed ∙ is);
       desk = desk-next;
     }
 
-    last-is : t.closes ≡ true → IsLast g.head
-    last-is is = subst (λ g. IsLast g.head) next.given (go t.closes is next.closes)
+    last-is : t.closes ≡ true → IsLast g.head g.content
+    last-is is = subst (λ g. IsLast g.head g.content) next.given (go t.closes is next.is.closes)
       where
-        go : (closes : Bool) → closes ≡ true → MatchBool closes (IsLast t.given.head) (¬ (IsLast t.given.head)) → IsLast t.given.head
+        go : (closes : Bool) → closes ≡ true → MatchBool closes (IsLast t.given.head t.given.content) (¬ (IsLast t.given.head t.given.content)) → IsLast t.given.head t.given.content
         go true is by = by
         go false is by = cc is
 
-    pub answered-last : talk.taken ≤ 2 ^ 62 → s'.place ≡ Between → t.closes ≡ true → Writes now.held held (answer_text t.closes t.answer) → Talked Streams start (record { view = view; left = now.left; ended = now.ended; held = held }) end.Closed
-    answered-last most at closes writes =
-        let all = all-to-last so_far.turns g (so_far.gone ++ gone) s'.waiting (subst (λ p. HasRead (given_by so_far.turns ++ g ∷ []) None (so_far.gone ++ gone) p) at reads) so_far.open_ so_far.closes (last-is closes) in
+    pub answered-last : OneMore (given_by so_far.turns) g bytes → talk.taken ≤ 2 ^ 62 → t.closes ≡ true → Writes now.held held (answer_text t.closes t.answer) → Talked Streams start (record { view = view; left = now.left; ended = now.ended; held = held }) end.Closed
+    answered-last one most closes writes =
+        let all = all-and (given_by so_far.turns) g bytes stay-open one (last-is closes) in
         record {
           turns = turns';
           requests = all.requests;
@@ -361,8 +373,8 @@ module _ (Streams : Option Refusal → Type 0) (start now : Moment) (talk : Talk
           gives = so_far.gives;
           few = few most;
           given = subst (λ gs. AreRequests gs all.requests) given-is all.given;
-          reads = subst (λ b. RequestsOf IsBodyText Closes b all.requests []) bytes-same all.reads;
-          closes = all_push ClosesBy so_far.turns t so_far.closes next.closes;
+          reads = all.reads;
+          each = all_push IsTurn so_far.turns t so_far.each next.is;
           refusal = None;
           written = written-next writes;
           refused = tt;
@@ -371,20 +383,20 @@ module _ (Streams : Option Refusal → Type 0) (start now : Moment) (talk : Talk
           desk = desk-next;
         }
 
-    pub answered-part : talk.taken ≤ 2 ^ 62 → WritesPart now.held held (answer_text t.closes t.answer) → Talked Streams start (record { view = view; left = now.left; ended = now.ended; held = held }) end.WriteFault
-    answered-part most part =
-        let front = front-of (given_by so_far.turns ++ g ∷ []) None (so_far.gone ++ gone) s'.waiting s'.place reads in
+    pub answered-part : OneMore (given_by so_far.turns) g bytes → talk.taken ≤ 2 ^ 62 → WritesPart now.held held (answer_text t.closes t.answer) → Talked Streams start (record { view = view; left = now.left; ended = now.ended; held = held }) end.WriteFault
+    answered-part one most part =
+        let front = front-and (given_by so_far.turns) g bytes stay-open one in
         record {
           turns = turns';
           requests = front.requests;
           taken = bytes;
-          rest = reads.begun ++ s'.waiting;
+          rest = one.behind;
           points = [];
           gives = so_far.gives;
           few = few most;
           given = subst (λ gs. AreRequests gs front.requests) given-is front.given;
-          reads = subst (λ b. BeginWith b front.requests (reads.begun ++ s'.waiting)) bytes-same front.begin;
-          closes = all_push ClosesBy so_far.turns t so_far.closes next.closes;
+          reads = front.begin;
+          each = all_push IsTurn so_far.turns t so_far.each next.is;
           refusal = None;
           refused = tt;
           written = subst (WritesPart start.held held) (sym (turns_text-push so_far.turns t)) (WritesPart-append start.held now.held held (turns_text so_far.turns) (answer_text t.closes t.answer) so_far.written part);
@@ -393,8 +405,19 @@ module _ (Streams : Option Refusal → Type 0) (start now : Moment) (talk : Talk
           desk = desk-next;
         }
 
+  -- ---- a request that is too long
+  -- it is refused, or why not
+  pub refused-long : (g : Given) (bare : Bool) (held : Option (List ℕ)) (new : TalkParts) (turned : Turned) → talk.taken ≤ 2 ^ 62 → IsTooLong g.head g.content → MatchBool bare (IsBare g.head) (¬ (IsBare g.head)) → OneMore (given_by so_far.turns) g bytes → RefusesLong bare now.held held turned → GoesOn Streams start (record { view = now.view; left = now.left; ended = now.ended; held = held }) new turned
+  refused-long g bare held new More most long bare_is one refuses = absurd refuses
+  refused-long g bare held new (Ended e) most long bare_is one (inl told) =
+      subst (Talked Streams start (record { view = now.view; left = now.left; ended = now.ended; held = held })) (sym told.0) (answered-last g _ now.view held (refused-turn Streams now.view g bare long bare_is) one most refl told.1)
+  refused-long g bare held new (Ended e) most long bare_is one (inr fails) =
+      fails-by (Talked Streams start (record { view = now.view; left = now.left; ended = now.ended; held = held })) (too_long_text bare) now.held held e fails
+      (λ part. answered-part g _ now.view held (refused-turn Streams now.view g bare long bare_is) one most part)
+      (λ same. memory-here held most same)
+
 -- ---- where memory was wanting before the first turn
 pub memory-at-once : (Streams : Option Refusal → Type 0) (now : Moment) → Talked Streams now now end.Memory
 memory-at-once Streams now =
     let talk : TalkParts = record { standing = record { place = Between; body = []; waiting = []; closed = false }; coming = None; taken = 0 } in
-    memory-here Streams now now talk (progress-start Streams now talk refl refl refl) (omega (arith))
+    memory-here Streams now now talk (progress-start Streams now talk refl refl refl) now.held (omega (arith)) refl

@@ -1,3 +1,4 @@
+pub mod Bodies
 pub mod Comings
 pub mod Driving
 pub mod Progress

@@ -1,5 +1,5 @@
 -- A talk under way: what it has done so far, and what each of its steps makes of that.
-use Rattle.std.specs.Prelude.{◌≡◌, ◌<◌, ◌+◌, ◌-◌, ◌*◌, ◌^◌, ◌⊎◌, ℕ, Bool, true, false, List, [], ◌++◌, length, Option, Some, None, Result, IfOk, IfSome}
+use Rattle.std.specs.Prelude.{◌≡◌, ◌<◌, ◌+◌, ◌-◌, ◌*◌, ◌^◌, ◌⊎◌, ◌↔◌, ℕ, Bool, true, false, List, [], ◌++◌, length, Option, Some, None, Result, IfOk, IfSome, IsTrue, codes, nat_le}
 use Rattle.std.specs.List.{AllByRecursion}
 use Rattle.hb_outside.specs.Streams.{Gives, Writes, WritesPart}
 use Rattle.httparse.specs.Grammar.{RequestHead}
@@ -17,16 +17,18 @@ use Rattle.hb_desk.specs.Points.{Point}
 use Rattle.hb_desk.specs.declared.answers.Answer.{Answer}
 use Rattle.hb_desk.specs.declared.refusals.Refusal.{Refusal}
 use Rattle.hb_ops.specs.Errors.{error_answer}
-use Rattle.hb_talk.specs.Comings.{ComesOf}
+use Rattle.hb_talk.specs.Bodies.{IsTooLong}
+use Rattle.hb_talk.specs.Comings.{ComesOf, tells_too_long}
 use Rattle.hb_talk.specs.Talks.{AtDesk, Moment, Talked, bad_head, long_head}
-use Rattle.hb_talk.specs.Texts.{answer_text}
-use Rattle.hb_talk.specs.Turns.{Answers, AnswersTo, ClosesBy, Turn, given_by, turns_text}
-use Rattle.hb_talk.specs.Wanting.{keeps_body}
+use Rattle.hb_talk.specs.Tasks.{too_long}
+use Rattle.hb_talk.specs.Texts.{answer_text, as_asked}
+use Rattle.hb_talk.specs.Turns.{Answers, AnswersTo, IsTurn, Turn, given_by, turns_text}
 use Rattle.hb_talk.specs.declared.coming.Coming.{Coming}
 use Rattle.hb_talk.specs.declared.ends.TalkEnd.{TalkEnd}
 use Rattle.hb_talk.specs.declared.ends.TalkEnd.TheVariants.{Closed, Cut, Bad, Long, ReadFault, WriteFault, Memory}
 use Rattle.hb_talk.specs.declared.ends.Turned.{Turned}
 use Rattle.hb_talk.specs.declared.ends.Turned.TheVariants.{More, Ended}
+use Rattle.hb_talk.specs.declared.wanted.TheConstants.{MAX_BODY}
 
 -- where its session stands, the request that comes, and how many bytes have come
 pub record TalkParts : Type 0 where
@@ -34,12 +36,12 @@ pub record TalkParts : Type 0 where
   pub coming : Option Coming
   pub taken : ℕ
 
--- what comes is the request of which this was given
+-- what comes is the request of which this was given, and so far that isn't too long
 abbrev pub Comes : Option Coming → Option Given → Type 0
 Comes None None = Unit {0}
 Comes None (Some g) = ⊥
 Comes (Some c) None = ⊥
-Comes (Some c) (Some g) = ComesOf c.wanted c.media c.last c.bare g.head × (keeps_body c.wanted ≡ true → c.body.items ≡ g.content)
+Comes (Some c) (Some g) = ComesOf c.wanted c.media c.last c.bare g.head × (c.body.items ≡ g.content) × ¬ (IsTooLong g.head g.content)
 
 -- What a talk has done so far: these turns, none of which closed, and of the request that comes this was given.
 pub record Progress (Streams : Option Refusal → Type 0) (start now : Moment) (talk : TalkParts) : Type 0 where
@@ -52,7 +54,7 @@ pub record Progress (Streams : Option Refusal → Type 0) (start now : Moment) (
   pub reads : HasRead (given_by turns) given gone talk.standing.place
   pub comes : Comes talk.coming given
   pub open_ : AllByRecursion (λ t. t.closes ≡ false) turns
-  pub closes : AllByRecursion ClosesBy turns
+  pub each : AllByRecursion IsTurn turns
   pub written : Writes start.held now.held (turns_text turns)
   pub ended : talk.standing.closed ≡ true → now.ended ≡ true
   pub desk : IfSome start.view.state (λ s. AtDesk Streams start.view now.view turns [])
@@ -62,26 +64,61 @@ abbrev pub GoesOn : (Option Refusal → Type 0) → Moment → Moment → TalkPa
 GoesOn Streams start now talk More = Progress Streams start now talk
 GoesOn Streams start now talk (Ended end) = Talked Streams start now end
 
--- ---- a head, and a piece of a body
-abbrev pub Begins : TalkParts → Head → TalkParts → Turned → Type 0
-Begins old head new More = (c : Coming) × (new ≡ record { standing = old.standing; coming = Some c; taken = old.taken }) × (c.body.items ≡ []) × ((h : RequestHead) → IsToldOf h head → ComesOf c.wanted c.media c.last c.bare h)
-Begins old head new (Ended Memory) = Unit {0}
-Begins old head new (Ended end) = ⊥
+-- ---- a text that is written
+-- why it wasn't
+abbrev pub Fails : List ℕ → Option (List ℕ) → Option (List ℕ) → TalkEnd → Type 0
+Fails text held held' WriteFault = WritesPart held held' text
+Fails text held held' Memory = held' ≡ held
+Fails text held held' end = ⊥
 
--- the body grows by the piece, where it is gathered
+-- it ends a talk so, where it was
+abbrev pub EndsBy : TalkEnd → List ℕ → Option (List ℕ) → Option (List ℕ) → TalkEnd → Type 0
+EndsBy wanted text held held' end = ((end ≡ wanted) × Writes held held' text) ⊎ Fails text held held' end
+
+-- what is answered to a request that is too long, with a body or without
+abbrev pub too_long_text : Bool → List ℕ
+too_long_text bare = answer_text true (as_asked bare (error_answer too_long))
+
+-- the talk ends with that answer
+abbrev pub RefusesLong : Bool → Option (List ℕ) → Option (List ℕ) → Turned → Type 0
+RefusesLong bare held held' More = ⊥
+RefusesLong bare held held' (Ended end) = EndsBy Closed (too_long_text bare) held held' end
+
+-- ---- a head, and a piece of a body
+-- the request of a head comes
+abbrev pub BeginsComing : TalkParts → Head → TalkParts → Turned → Type 0
+BeginsComing old head new More = (c : Coming) × (new ≡ record { standing = old.standing; coming = Some c; taken = old.taken }) × (c.body.items ≡ []) × ((h : RequestHead) → IsToldOf h head → ComesOf c.wanted c.media c.last c.bare h)
+BeginsComing old head new (Ended Memory) = Unit {0}
+BeginsComing old head new (Ended end) = ⊥
+
+-- what a head makes of talk and sink: it is refused where it tells too long a body
+abbrev pub Begins : TalkParts → Head → Option (List ℕ) → Option (List ℕ) → TalkParts → Turned → Type 0
+Begins old head held held' new turned =
+    ((tells_too_long head.length ≡ true) × (bare : Bool) × (IsTrue bare ↔ (head.method ≡ codes "HEAD")) × RefusesLong bare held held' turned)
+    ⊎ ((tells_too_long head.length ≡ false) × (held' ≡ held) × BeginsComing old head new turned)
+
+-- the body grows by the piece
 pub record Grows (c c' : Coming) (piece : List ℕ) : Type 0 where
   pub wanted : c'.wanted ≡ c.wanted
   pub media : c'.media ≡ c.media
   pub last : c'.last ≡ c.last
   pub bare : c'.bare ≡ c.bare
-  pub body : keeps_body c.wanted ≡ true → c'.body.items ≡ c.body.items ++ piece
+  pub body : c'.body.items ≡ c.body.items ++ piece
+
+abbrev pub GrowsBy : TalkParts → Coming → TalkParts → Turned → Type 0
+GrowsBy old c new More = (c' : Coming) × (new ≡ record { standing = old.standing; coming = Some c'; taken = old.taken }) × Grows c c' old.standing.body
+GrowsBy old c new (Ended Memory) = Unit {0}
+GrowsBy old c new (Ended end) = ⊥
+
+-- what a piece makes of what comes, and of the sink: it is refused where the body is too long with it
+abbrev pub GathersTo : TalkParts → Coming → Option (List ℕ) → Option (List ℕ) → TalkParts → Turned → Type 0
+GathersTo old c held held' new turned =
+    ((nat_le (length c.body.items + length old.standing.body) MAX_BODY ≡ false) × RefusesLong c.bare held held' turned)
+    ⊎ ((nat_le (length c.body.items + length old.standing.body) MAX_BODY ≡ true) × (held' ≡ held) × GrowsBy old c new turned)
 
 -- a piece comes behind a head alone
-abbrev pub Gathers : TalkParts → TalkParts → Turned → Type 0
-Gathers old new More = (c c' : Coming) × (old.coming ≡ Some c) × (new ≡ record { standing = old.standing; coming = Some c'; taken = old.taken }) × Grows c c' old.standing.body
-Gathers old new (Ended Memory) = Unit {0}
-Gathers old new (Ended Bad) = old.coming ≡ None
-Gathers old new (Ended end) = ⊥
+abbrev pub Gathers : TalkParts → Option (List ℕ) → Option (List ℕ) → TalkParts → Turned → Type 0
+Gathers old held held' new turned = ((old.coming ≡ None) × (turned ≡ Ended Bad)) ⊎ ((c : Coming) × (old.coming ≡ Some c) × GathersTo old c held held' new turned)
 
 -- ---- a read
 -- what a read of n bytes makes of a session: none is the end of the input
@@ -110,7 +147,7 @@ pub record Served {E : Type 0} (Streams : Option Refusal → Type 0) (start now 
 -- one turn more
 pub record NextTurn (Streams : Option Refusal → Type 0) (start now : View) (g : Given) (t : Turn) : Type 0 where
   pub given : t.given ≡ g
-  pub closes : ClosesBy t
+  pub is : IsTurn t
   pub desk : IfSome start.state (λ s. Chain start t.points now × Answers Streams start.told_bytes t)
 
 -- what answering a request makes of desk and sink
@@ -127,18 +164,11 @@ abbrev pub fault_text : HttpFault → List ℕ
 fault_text fault.Bad = answer_text true (error_answer bad_head)
 fault_text other = answer_text true (error_answer long_head)
 
--- how such an answer ends it
-abbrev pub EndsBy : List ℕ → Option (List ℕ) → Option (List ℕ) → TalkEnd → Type 0
-EndsBy text held held' Bad = Writes held held' text
-EndsBy text held held' WriteFault = WritesPart held held' text
-EndsBy text held held' Memory = held' ≡ held
-EndsBy text held held' end = ⊥
-
 -- how a fault of the bytes ends it
 abbrev pub EndsFault : HttpFault → Option (List ℕ) → Option (List ℕ) → TalkEnd → Type 0
 EndsFault fault.Cut held held' end = (end ≡ Cut) × (held' ≡ held)
 EndsFault fault.Memory held held' end = (end ≡ Memory) × (held' ≡ held)
-EndsFault f held held' end = EndsBy (fault_text f) held held' end
+EndsFault f held held' end = EndsBy Bad (fault_text f) held held' end
 
 abbrev pub is_between : Place → ℕ
 is_between Between = 0

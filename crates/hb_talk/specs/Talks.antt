@@ -7,7 +7,6 @@ use Rattle.hb_http.specs.ChunkPlaces.{body_start, place_after}
 use Rattle.hb_http.specs.Framing.{IsChunked}
 use Rattle.hb_http.specs.Headers.{headers_of}
 use Rattle.hb_http.specs.Heads.{HasTooManyHeaders, IsHead, IsHeadTooLong, IsMalformed}
-use Rattle.hb_http.specs.Readings.{AreRequests, IsBodyText}
 use Rattle.hb_http.specs.Requests.{IsRequest, Request, RequestsOf, request_text}
 use Rattle.hb_http.specs.declared.chunk_places.ChunkPlace.TheVariants.{Bad as BadBody}
 use Rattle.hb_desk.specs.Chains.{Chain}
@@ -15,9 +14,9 @@ use Rattle.hb_desk.specs.Clause.{View}
 use Rattle.hb_desk.specs.Points.{Point}
 use Rattle.hb_desk.specs.declared.refusals.Refusal.{Refusal}
 use Rattle.hb_ops.specs.Errors.{ErrorForm, error_answer, plain}
+use Rattle.hb_talk.specs.Bodies.{AreRequests, Closes, IsReadText}
 use Rattle.hb_talk.specs.Texts.{answer_text}
-use Rattle.hb_talk.specs.Turns.{Answers, ClosesBy, Turn, given_by, points_of, turns_text}
-use Rattle.hb_talk.specs.Wanting.{IsLast}
+use Rattle.hb_talk.specs.Turns.{Answers, IsTurn, Turn, given_by, points_of, turns_text}
 use Rattle.hb_talk.specs.declared.ends.TalkEnd.{TalkEnd}
 use Rattle.hb_talk.specs.declared.ends.TalkEnd.TheVariants.{Closed, Cut, Bad, Long, WriteFault, Memory}
 
@@ -32,20 +31,17 @@ pub record Moment : Type 0 where
 abbrev pub now_of : View → Option (List ℕ) → Bool → Option (List ℕ) → Moment
 now_of view left ended held = record { view = view; left = left; ended = ended; held = held }
 
-abbrev pub Closes : RequestHead → List ℕ → Type 0
-Closes h body = IsLast h
-
 -- the bytes are these whole requests and then the rest
 pub record BeginWith (bytes : List ℕ) (requests : List Request) (rest : List ℕ) : Type 0 where
   pub text : bytes ≡ flat_map request_text requests ++ rest
-  pub each : AllByRecursion (IsRequest IsBodyText) requests
+  pub each : AllByRecursion (IsRequest IsReadText) requests
 
 -- All whole requests of the bytes were answered, up to the first that closes; or, where the sink failed or memory was
 -- wanting, those at their front.
 abbrev pub Reads : TalkEnd → List ℕ → List Request → List ℕ → Type 0
 Reads WriteFault taken requests rest = BeginWith taken requests rest
 Reads Memory taken requests rest = BeginWith taken requests rest
-Reads end taken requests rest = RequestsOf IsBodyText Closes taken requests rest
+Reads end taken requests rest = RequestsOf IsReadText Closes taken requests rest
 
 -- where the sink failed, a part of the last answer may be missing
 abbrev pub Wrote : TalkEnd → Option (List ℕ) → Option (List ℕ) → List ℕ → Type 0
@@ -67,6 +63,11 @@ IsMalformedRest bytes = IsMalformed bytes ⊎ ((h : RequestHead) × (body : List
 -- their head is above its limits
 abbrev pub IsOverLimits : List ℕ → Type 0
 IsOverLimits bytes = HasTooManyHeaders bytes ⊎ IsHeadTooLong bytes
+
+-- the bytes call for no refusal: they may be the beginning of a request
+pub record IsOpen (bytes : List ℕ) : Type 0 where
+  pub formed : ¬ (IsMalformedRest bytes)
+  pub within : ¬ (IsOverLimits bytes)
 
 -- 400 for malformed bytes, and 431 for a head above its limits (RFC 6585, section 5)
 abbrev pub bad_head : ErrorForm
@@ -96,7 +97,7 @@ with_refusal answers (Some text) = answers ++ text
 -- why the talk ended
 abbrev pub HasCause : TalkEnd → Bool → List ℕ → List Turn → List ℕ → Type 0
 HasCause Closed ended taken turns rest = (rest ≡ []) × ((ended ≡ true) ⊎ LastCloses turns)
-HasCause Cut ended taken turns rest = (rest ≢ []) × (ended ≡ true)
+HasCause Cut ended taken turns rest = (rest ≢ []) × (ended ≡ true) × IsOpen rest
 HasCause Long ended taken turns rest = length taken ≡ 2 ^ 62
 HasCause end ended taken turns rest = Unit {0}
 
@@ -122,7 +123,7 @@ pub record Talked (Streams : Option Refusal → Type 0) (start now : Moment) (en
   pub few : length taken ≤ 2 ^ 62
   pub given : AreRequests (given_by turns) requests
   pub reads : Reads end taken requests rest
-  pub closes : AllByRecursion ClosesBy turns
+  pub each : AllByRecursion IsTurn turns
   pub refusal : Option (List ℕ)
   pub written : Wrote end start.held now.held (with_refusal (turns_text turns) refusal)
   pub refused : HasRefusal end rest refusal

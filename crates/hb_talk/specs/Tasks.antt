@@ -15,6 +15,8 @@ use Rattle.hb_routes.specs.declared.faults.RouteFault.{RouteFault}
 use Rattle.hb_routes.specs.declared.faults.RouteFault.TheVariants as route
 use Rattle.hb_desk.specs.Points.{Point}
 use Rattle.hb_desk.specs.declared.answers.Answer.{Answer}
+use Rattle.hb_desk.specs.declared.asks.Ask.{Ask}
+use Rattle.hb_desk.specs.declared.asks.Ask.TheVariants.{TouchBlob, Look}
 use Rattle.hb_upload.specs.Deciding.{decided}
 use Rattle.hb_upload.specs.Places.{Calls, Parcel, Stopped, place_of}
 use Rattle.hb_upload.specs.declared.phase.Stop.{Stop}
@@ -24,15 +26,19 @@ use Rattle.hb_ops.specs.Gets.{HasDigest, LeadTo, decided as got_by}
 use Rattle.hb_ops.specs.declared.gets.Got.{Got}
 use Rattle.hb_ops.specs.declared.gets.Got.TheVariants as got
 use Rattle.hb_ops.specs.declared.gets.Phase.TheVariants.{Ended}
+use Rattle.hb_ops.specs.Checks.{LeadTo as CheckedBy, decided as checked_by}
+use Rattle.hb_ops.specs.declared.checks.Checked.{Checked}
+use Rattle.hb_ops.specs.declared.checks.Checked.TheVariants as checked
 use Rattle.hb_ops.specs.declared.gets.Sought.{Sought}
 use Rattle.hb_ops.specs.declared.gets.Sought.TheVariants.{Blob, Manifest as AManifest}
 use Rattle.hb_talk.specs.declared.wanted.Wanted.{Wanted}
-use Rattle.hb_talk.specs.declared.wanted.Wanted.TheVariants.{Base, PushBlob, GetBlob, PutManifest, GetManifest, Unbuilt, Unrouted, TooLong, InChunks}
+use Rattle.hb_talk.specs.declared.wanted.Wanted.TheVariants.{Base, PushBlob, GetBlob, HeadBlob, PutManifest, GetManifest, HeadManifest, Unbuilt, Unrouted}
 
 -- an operation over the desk, or an answer at once
 pub data Task : Type 0 where
   Pushes : (parcel : Parcel) → Task
   Gets : (sought : Sought) → Task
+  Checks : (ask : Ask) → Task
   Refuses : (error : ErrorForm) → Task
   Tells : (answer : Answer) → Task
 
@@ -85,11 +91,11 @@ abbrev pub task_of : Wanted → Option (List ℕ) → List ℕ → Task
 task_of Base media body = Tells base
 task_of Unbuilt media body = Refuses unsupported
 task_of (Unrouted fault) media body = Refuses (route_error fault)
-task_of TooLong media body = Refuses too_long
-task_of InChunks media body = Refuses unsupported
 task_of (PushBlob name d) media body = Pushes (record { name = name; digest = d; bytes = body; put = None })
 task_of (GetBlob name d) media body = Gets (Blob name d)
+task_of (HeadBlob name d) media body = Checks (TouchBlob name d)
 task_of (GetManifest name r) media body = Gets (AManifest name r)
+task_of (HeadManifest name r) media body = Checks (Look name r)
 task_of (PutManifest name r) media body =
     if names_other r (digest_of body) then Refuses (wrong_digest (digest_of body)) else manifest_task name r body (manifest_form media body)
 
@@ -97,6 +103,7 @@ task_of (PutManifest name r) media body =
 abbrev pub Makes : Task → List Point → Type 0
 Makes (Pushes b) points = Calls b points × ((stop : Stop) × (place_of b points ≡ Stopped stop))
 Makes (Gets sought) points = (x : Got) × LeadTo sought (Ended x) points
+Makes (Checks ask) points = (x : Checked) × CheckedBy ask (Some x) points
 Makes (Refuses error) points = points ≡ []
 Makes (Tells answer) points = points ≡ []
 
@@ -119,6 +126,10 @@ octets = codes "application/octet-stream"
 abbrev pub content : Digest → Option (List ℕ) → List ℕ → Answer
 content d media bytes = record { status = 200; code = None; detail = []; length = None; media = Some (unwrap_or media octets); digest = Some d; link = None; location = None; range = None; retry = None; body = Some bytes }
 
+-- content of which the head alone is told
+abbrev pub content_head : Digest → Option (List ℕ) → ℕ → Answer
+content_head d media size = record { status = 200; code = None; detail = []; length = Some size; media = Some (unwrap_or media octets); digest = Some d; link = None; location = None; range = None; retry = None; body = None }
+
 -- ---- answers
 abbrev pub push_answer : Parcel → Stop → Answer
 push_answer b Pushed = created b
@@ -129,9 +140,14 @@ abbrev pub got_answer : Got → Answer
 got_answer (got.Content d media bytes) = content d media bytes
 got_answer (got.Refused refusal t) = error_answer (error_of t refusal)
 
+abbrev pub checked_answer : Checked → Answer
+checked_answer (checked.Content d size media) = content_head d media size
+checked_answer (checked.Refused refusal t) = error_answer (error_of t refusal)
+
 abbrev pub answer_of : Task → List Point → List ℕ → Answer
 answer_of (Pushes b) points read = push_answer b (decided b points)
 answer_of (Gets sought) points read = got_answer (got_by read points)
+answer_of (Checks ask) points read = checked_answer (checked_by ask points)
 answer_of (Refuses error) points read = error_answer error
 answer_of (Tells answer) points read = answer
 

@@ -1,14 +1,16 @@
 -- The turns of a connection: each request with its answer, and with the events that decided it.
-use Rattle.std.specs.Prelude.{◌≡◌, ℕ, Bool, List, [], ◌∷◌, ◌++◌, map, Option, MatchBool}
+use Rattle.std.specs.Prelude.{◌≡◌, ◌⊎◌, ℕ, Bool, true, false, List, [], ◌∷◌, ◌++◌, map, Option, MatchBool}
 use Rattle.std.specs.List.{AllByRecursion, flat_map}
 use Rattle.httparse.specs.Grammar.{RequestHead}
 use Rattle.hb_http.specs.Readings.{Given}
 use Rattle.hb_desk.specs.Points.{Point}
 use Rattle.hb_desk.specs.declared.answers.Answer.{Answer}
 use Rattle.hb_desk.specs.declared.refusals.Refusal.{Refusal}
-use Rattle.hb_talk.specs.Tasks.{Makes, ReadsTrue, Task, answer_of, task_of}
+use Rattle.hb_talk.specs.Bodies.{IsLast, IsTooLong}
+use Rattle.hb_talk.specs.Tasks.{Makes, ReadsTrue, Task, answer_of, task_of, too_long}
+use Rattle.hb_talk.specs.Tasks.Task.{Refuses, Tells}
 use Rattle.hb_talk.specs.Texts.{answer_text, as_asked}
-use Rattle.hb_talk.specs.Wanting.{IsBare, IsLast, Serves, media_of}
+use Rattle.hb_talk.specs.Wanting.{Asks, IsBare, media_of}
 use Rattle.hb_talk.specs.declared.wanted.Wanted.{Wanted}
 
 -- A request by its head and its data, the points of its events, the newest first, what was read of the content that it
@@ -32,15 +34,41 @@ pub record IsDone (Streams : Option Refusal → Type 0) (told : Bool) (task : Ta
 abbrev pub IsToldAs : RequestHead → Answer → Answer → Type 0
 IsToldAs h full answer = (bare : Bool) × MatchBool bare (IsBare h) (¬ (IsBare h)) × (answer ≡ as_asked bare full)
 
--- the task of what the request wants was done
+-- A request that is too long is refused, whatever its route; else its task is that of what its method and its target want.
+abbrev pub IsTaskOf : Given → Task → Type 0
+IsTaskOf g task =
+    (IsTooLong g.head g.content × (task ≡ Refuses too_long))
+    ⊎ ((¬ (IsTooLong g.head g.content)) × (w : Wanted) × Asks g.head.method g.head.target w × (task ≡ task_of w (media_of g.head) g.content))
+
+-- the task of the request was done
 abbrev pub AnswersTo : (Option Refusal → Type 0) → Bool → Given → List Point → List ℕ → Answer → Type 0
-AnswersTo Streams told g points read answer = (w : Wanted) × (full : Answer) × Serves g.head w × IsDone Streams told (task_of w (media_of g.head) g.content) points read full × IsToldAs g.head full answer
+AnswersTo Streams told g points read answer = (task : Task) × (full : Answer) × IsTaskOf g task × IsDone Streams told task points read full × IsToldAs g.head full answer
 
 abbrev pub Answers : (Option Refusal → Type 0) → Bool → Turn → Type 0
 Answers Streams told t = AnswersTo Streams told t.given t.points t.read t.answer
 
+-- a task that needs no event
+abbrev pub is_at_once : Task → Bool
+is_at_once (Refuses error) = true
+is_at_once (Tells answer) = true
+is_at_once task = false
+
+-- its answer, where it needs none
+abbrev pub AtOnce : Task → Answer → Type 0
+AtOnce task answer = is_at_once task ≡ true → answer ≡ answer_of task [] []
+
+-- The answer is to a task of the request, and is decided where that needs no event. It is so over every desk.
+abbrev pub AnswersAtOnce : Given → Answer → Type 0
+AnswersAtOnce g answer = (task : Task) × (full : Answer) × IsTaskOf g task × AtOnce task full × IsToldAs g.head full answer
+
+-- it closed exactly where its request is the last
 abbrev pub ClosesBy : Turn → Type 0
-ClosesBy t = MatchBool t.closes (IsLast t.given.head) (¬ (IsLast t.given.head))
+ClosesBy t = MatchBool t.closes (IsLast t.given.head t.given.content) (¬ (IsLast t.given.head t.given.content))
+
+-- what holds of each turn, over every desk
+pub record IsTurn (t : Turn) : Type 0 where
+  pub closes : ClosesBy t
+  pub at_once : AnswersAtOnce t.given t.answer
 
 -- what was given of the requests
 abbrev pub given_by : List Turn → List Given

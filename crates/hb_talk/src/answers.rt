@@ -1,15 +1,15 @@
 //! What is answered to a request, and the errors that no event decides.
-ghost use Rattle.std.specs.Prelude.{◌≡◌, ◌≢◌, ◌++◌, ◌∷◌, [], IfOk, codes};
+ghost use Rattle.std.specs.Prelude.{◌≡◌, ◌≢◌, ◌++◌, ◌∷◌, [], IfOk, codes, unwrap_or};
 ghost use Rattle.hb_text.specs.Digests.{digest_of, digest_text};
 ghost use Rattle.hb_records.specs.declared.puts.PutAsk.{PutAsk as Put};
 ghost use Rattle.std.specs.declared.option.Option.{Option};
 ghost use Rattle.hb_ops.specs.Errors.{digest_item, error_answer, number_item, plain};
-ghost use Rattle.hb_talk.specs.Tasks.{base, content, created, got_answer, location_of, manifest_error, route_error, too_long, unsupported, wrong_digest};
+ghost use Rattle.hb_talk.specs.Tasks.{base, checked_answer, content, content_head, created, got_answer, location_of, manifest_error, octets, route_error, too_long, unsupported, wrong_digest};
 ghost use Rattle.hb_upload.specs.Places.{Parcel};
 
 use hb_desk::{Answer, DetailItem, DetailList, DetailValue};
 use hb_manifest::ManifestFault;
-use hb_ops::{Got, error, refused};
+use hb_ops::{Checked, Got, error, refused};
 use hb_records::Listed;
 use hb_routes::RouteFault;
 use hb_text::{Digest, Memory, Name, Text};
@@ -40,7 +40,7 @@ pub(crate) fn unsupported(alloc: Global) -> Result<Answer, Memory>
     error(alloc, 404, b"UNSUPPORTED", Listed::new(alloc), None)
 }
 
-/// 413 SIZE_INVALID: the body is longer than is gathered.
+/// 413 SIZE_INVALID: the body is too long.
 pub(crate) fn too_long(alloc: Global) -> Result<Answer, Memory>
     ensures { IfOk result (λ a. a ≡ error_answer too_long) }
 {
@@ -146,7 +146,17 @@ pub(crate) fn created(alloc: Global, location: Text, digest: Digest) -> Answer
     }
 }
 
-// 200 with content. Of a blob the type isn't told.
+// The type of content, of which a blob has none of its own.
+fn media_or_octets(alloc: Global, media: Option<Text>) -> Result<Text, Memory>
+    ensures { IfOk result (λ text. text ≡ unwrap_or media octets) }
+{
+    match media {
+        Some(media) => Ok(media),
+        None => Text::new(alloc, b"application/octet-stream"),
+    }
+}
+
+// 200 with content.
 fn content(
     alloc: Global,
     digest: Digest,
@@ -155,10 +165,7 @@ fn content(
 ) -> Result<Answer, Memory>
     ensures { IfOk result (λ a. a ≡ content digest media bytes) }
 {
-    let media = match media {
-        Some(media) => media,
-        None => Text::new(alloc, b"application/octet-stream")?,
-    };
+    let media = media_or_octets(alloc, media)?;
     Ok(Answer {
         status: 200,
         code: None,
@@ -185,5 +192,44 @@ pub(crate) fn got(alloc: Global, got: Got) -> Result<Answer, Memory>
             bytes,
         } => content(alloc, digest, media, bytes),
         Got::Refused { refusal, moment } => refused(alloc, &refusal, moment),
+    }
+}
+
+// 200 for content of this size, without its bytes.
+fn content_head(
+    alloc: Global,
+    digest: Digest,
+    media: Option<Text>,
+    size: u64,
+) -> Result<Answer, Memory>
+    ensures { IfOk result (λ a. a ≡ content_head digest media size) }
+{
+    let media = media_or_octets(alloc, media)?;
+    Ok(Answer {
+        status: 200,
+        code: None,
+        detail: Listed::new(alloc),
+        length: Some(size),
+        media: Some(media),
+        digest: Some(digest),
+        link: None,
+        location: None,
+        range: None,
+        retry: None,
+        body: None,
+    })
+}
+
+/// What a check is answered.
+pub(crate) fn checked(alloc: Global, checked: Checked) -> Result<Answer, Memory>
+    ensures { IfOk result (λ a. a ≡ checked_answer checked) }
+{
+    match checked {
+        Checked::Content {
+            digest,
+            size,
+            media,
+        } => content_head(alloc, digest, media, size),
+        Checked::Refused { refusal, moment } => refused(alloc, &refusal, moment),
     }
 }

@@ -10,18 +10,20 @@ ghost use Rattle.hb_upload.specs.Phases.{PhaseFits, is_ended};
 ghost use Rattle.hb_upload.specs.Places.{Parcel};
 ghost use Rattle.hb_upload.specs.Pushes.{Went};
 ghost use Rattle.hb_upload.specs.declared.phase.Stop.{Stop as Stopping};
+ghost use Rattle.hb_ops.specs.Checks.{Went as CheckWent};
 ghost use Rattle.hb_ops.specs.Gets.{PhaseFits as GetFits, Went as GetWent, is_ended as is_got};
 ghost use Rattle.hb_talk.specs.Driving.{Driven, IsPut, IsRefused, Worked, parcel_of};
 ghost use Rattle.hb_talk.specs.Tasks.{location_of, push_answer as answer_by, names_other, put_of, task_of};
-ghost use Rattle.hb_talk.specs.Tasks.Task.{Gets, Pushes};
+ghost use Rattle.hb_talk.specs.Turns.{AtOnce};
+ghost use Rattle.hb_talk.specs.Tasks.Task.{Checks, Gets, Pushes};
 
 use crate::answers::{
-    bad_manifest, base, created, got, location, no_route, too_long, unsupported, wrong_digest,
+    bad_manifest, base, checked, created, got, location, no_route, unsupported, wrong_digest,
 };
 use crate::wanted::Wanted;
 use hb_desk::{Answer, Desk, Op, Progress};
 use hb_manifest::{Manifest, read_manifest};
-use hb_ops::{Get, refused};
+use hb_ops::{Check, Get, refused};
 use hb_outside::Clock;
 use hb_records::PutAsk;
 use hb_text::{Digest, Memory, Name, Reference, Tag, Text};
@@ -122,6 +124,27 @@ fn get<D: Desk, C: Clock>(
     }
 }
 
+// Checks, and answers by how that ended.
+fn check<D: Desk, C: Clock>(
+    alloc: Global,
+    desk: &mut D,
+    clock: &mut C,
+    check: Check,
+) -> Result<Answer, Memory>
+    requires ready { check.ended ≡ None }
+    requires went { CheckWent check check [] }
+    ensures worked { IfSome (D.view desk.old).state (λ s. Worked (IsStreamFault D.Stage D.Reader D.Stage.faults D.Reader.faults) (Checks check.ask) (D.view desk.old) (D.view desk.new) result) }
+    ensures moves { Moves (D.view desk.old) (D.view desk.new) }
+    ensures phrase { IfOk result (λ a. HasPhrase a.status) }
+{
+    let mut check = check;
+    drive(desk, clock, &mut check);
+    match check.into_end() {
+        Some(end) => checked(alloc, end),
+        None => unreachable!(),
+    }
+}
+
 // Whether a reference is a digest, and not this one.
 fn names_other(reference: &Reference, found: &Digest) -> bool
     ensures { result ≡ names_other reference.now found.now }
@@ -182,6 +205,7 @@ fn put_manifest<D: Desk, C: Clock>(
     body: Text,
 ) -> Result<Answer, Memory>
     ensures worked { IfSome (D.view desk.old).state (λ s. Worked (IsStreamFault D.Stage D.Reader D.Stage.faults D.Reader.faults) (task_of (Wanted.PutManifest name reference) (option_copied media.entry) body) (D.view desk.old) (D.view desk.new) result) }
+    ensures at_once { IfOk result (AtOnce (task_of (Wanted.PutManifest name reference) (option_copied media.entry) body)) }
     ensures moves { Moves (D.view desk.old) (D.view desk.new) }
     ensures phrase { IfOk result (λ a. HasPhrase a.status) }
 {
@@ -207,17 +231,21 @@ pub(crate) fn serve<D: Desk, C: Clock>(
     body: Text,
 ) -> Result<Answer, Memory>
     ensures worked { IfSome (D.view desk.old).state (λ s. Worked (IsStreamFault D.Stage D.Reader D.Stage.faults D.Reader.faults) (task_of wanted media.now body) (D.view desk.old) (D.view desk.new) result) }
+    ensures at_once { IfOk result (AtOnce (task_of wanted media.now body)) }
     ensures moves { Moves (D.view desk.old) (D.view desk.new) }
     ensures phrase { IfOk result (λ a. HasPhrase a.status) }
 {
     match wanted {
         Wanted::Base => base(alloc),
-        Wanted::Unbuilt | Wanted::InChunks => unsupported(alloc),
-        Wanted::TooLong => too_long(alloc),
+        Wanted::Unbuilt => unsupported(alloc),
         Wanted::Unrouted { fault } => no_route(alloc, fault),
         Wanted::PushBlob { name, digest } => push_blob(alloc, desk, clock, name, digest, body),
         Wanted::GetBlob { name, digest } => {
             get(alloc, desk, clock, Get::blob(alloc, name, digest))
+        }
+        Wanted::HeadBlob { name, digest } => check(alloc, desk, clock, Check::blob(name, digest)),
+        Wanted::HeadManifest { name, reference } => {
+            check(alloc, desk, clock, Check::manifest(name, reference))
         }
         Wanted::GetManifest { name, reference } => {
             let begun = Get::manifest(alloc, name, reference)?;

@@ -1,23 +1,24 @@
 //! A talk over one connection.
-ghost use Rattle.std.specs.Prelude.{◌≡◌, ◌<◌, ◌≤◌, ◌^◌, [], length, true, codes, None, Some, IfOk, IfSome, OnErr};
+ghost use Rattle.std.specs.Prelude.{◌≡◌, ◌<◌, ◌≤◌, ◌^◌, [], length, true, codes, None, Some, IfErr, IfOk, IfSome, OnErr, OnOk};
 ghost use Rattle.hb_outside.specs.Causes.{HasCause, Rose};
 ghost use Rattle.hb_http.specs.AnswerHeads.{HasPhrase};
 ghost use Rattle.hb_http.specs.Readings.{Given};
 ghost use Rattle.hb_http.specs.Standing.{fresh};
 ghost use Rattle.hb_http.specs.declared.TheConstants.{MAX_HEAD};
+ghost use Rattle.hb_outside.specs.Streams.{Writes};
 ghost use Rattle.hb_desk.specs.Points.{IsStreamFault, Moves};
 ghost use Rattle.hb_ops.specs.Errors.{error_answer, plain};
-ghost use Rattle.hb_talk.specs.Comings.{ComesOf};
 ghost use Rattle.hb_talk.specs.Texts.{answer_text};
-ghost use Rattle.hb_talk.specs.Progress.{Answered, Begins, Came, Comes, EndsBy, EndsFault, Gathers, GoesOn, Progress, Reads, Served, work_left};
-ghost use Rattle.hb_talk.specs.Wanting.{keeps_body};
+ghost use Rattle.hb_talk.specs.Progress.{Answered, Begins, Came, Comes, EndsBy, EndsFault, Fails, Gathers, GoesOn, Progress, Reads, Served, too_long_text, work_left};
 ghost use Rattle.hb_talk.specs.Talks.{Moment, Talked, now_of};
+ghost use Rattle.hb_talk.specs.Turns.{AnswersAtOnce};
 
-use crate::answers::bad_head;
-use crate::coming::Coming;
+use crate::answers::{bad_head, too_long};
+use crate::coming::{Coming, is_bare};
 use crate::ends::{TalkEnd, Turned};
 use crate::serving::serve;
 use crate::texts::{as_asked, text_of};
+use crate::wanted::is_too_long;
 use hb_desk::{Answer, Desk};
 use hb_http::{Head, HttpFault, Part, Session};
 use hb_outside::{Clock, ReadFailed, Sink, Source};
@@ -57,22 +58,51 @@ impl Model for Connection {
     ghost invariant = { λ t. (vec_len t.piece ≡ 65536) × (t.taken ≤ 2 ^ 62) };
 }
 
+// Writes an answer, behind which the connection closes or not. Where it can't, the talk ends so.
+fn write<O: Sink>(alloc: Global, out: &mut O, answer: Answer, close: bool) -> Result<(), TalkEnd>
+    requires phrase { HasPhrase answer.status }
+    ensures wrote { OnOk result (Writes (O.held out.old) (O.held out.new) (answer_text close answer)) }
+    ensures fails { IfErr result (Fails (answer_text close answer) (O.held out.old) (O.held out.new)) }
+    ensures later { O.faults out.old ≤ O.faults out.new }
+    ensures written { IfErr result (λ end. end ≡ TalkEnd.WriteFault → Rose (O.faults out.old) (O.faults out.new)) }
+{
+    let Ok(text) = text_of(alloc, answer, close) else {
+        return Err(TalkEnd::Memory);
+    };
+    match out.write(&text) {
+        Ok(()) => Ok(()),
+        Err(_) => Err(TalkEnd::WriteFault),
+    }
+}
+
 // Writes an error, behind which the connection closes, and ends the talk as one of malformed bytes.
 fn refuse<O: Sink>(alloc: Global, out: &mut O, status: u16) -> TalkEnd
     requires phrase { HasPhrase status }
-    ensures ends { EndsBy (answer_text true (error_answer (plain status (codes "HEAD_INVALID")))) (O.held out.old) (O.held out.new) result }
+    ensures ends { EndsBy TalkEnd.Bad (answer_text true (error_answer (plain status (codes "HEAD_INVALID")))) (O.held out.old) (O.held out.new) result }
     ensures later { O.faults out.old ≤ O.faults out.new }
     ensures written { result ≡ TalkEnd.WriteFault → Rose (O.faults out.old) (O.faults out.new) }
 {
     let Ok(answer) = bad_head(alloc, status) else {
         return TalkEnd::Memory;
     };
-    let Ok(text) = text_of(alloc, answer, true) else {
+    match write(alloc, out, answer, true) {
+        Ok(()) => TalkEnd::Bad,
+        Err(end) => end,
+    }
+}
+
+// Answers 413 SIZE_INVALID to a request that is too long, without a body where that is asked for, and closes.
+fn refuse_long<O: Sink>(alloc: Global, out: &mut O, bare: bool) -> TalkEnd
+    ensures ends { EndsBy TalkEnd.Closed (too_long_text bare) (O.held out.old) (O.held out.new) result }
+    ensures later { O.faults out.old ≤ O.faults out.new }
+    ensures written { result ≡ TalkEnd.WriteFault → Rose (O.faults out.old) (O.faults out.new) }
+{
+    let Ok(answer) = too_long(alloc) else {
         return TalkEnd::Memory;
     };
-    match out.write(&text) {
-        Ok(()) => TalkEnd::Bad,
-        Err(_) => TalkEnd::WriteFault,
+    match write(alloc, out, as_asked(answer, bare), true) {
+        Ok(()) => TalkEnd::Closed,
+        Err(end) => end,
     }
 }
 
@@ -100,8 +130,8 @@ fn answer_of<D: Desk, C: Clock>(
     clock: &mut C,
     coming: Coming,
 ) -> Result<Answer, Memory>
-    ensures served { (g : Given) → ComesOf coming.wanted coming.media coming.last coming.bare g.head → (keeps_body coming.wanted ≡ true → coming.body.items ≡ g.content)
-        → IfSome (D.view desk.old).state (λ s. Served (IsStreamFault D.Stage D.Reader D.Stage.faults D.Reader.faults) (D.view desk.old) (D.view desk.new) g result) }
+    ensures served { (g : Given) → Comes (Some coming) (Some g) → IfSome (D.view desk.old).state (λ s. Served (IsStreamFault D.Stage D.Reader D.Stage.faults D.Reader.faults) (D.view desk.old) (D.view desk.new) g result) }
+    ensures at_once { (g : Given) → Comes (Some coming) (Some g) → IfOk result (AnswersAtOnce g) }
     ensures moves { Moves (D.view desk.old) (D.view desk.new) }
     ensures phrase { IfOk result (λ a. HasPhrase a.status) }
 {
@@ -168,10 +198,16 @@ impl Connection {
         })
     }
 
-    // A head has come.
-    fn begin(&mut self, head: Head) -> Turned
-        ensures { Begins self.old head self.new result }
+    // A head has come. One that tells too long a body is answered at once, and nothing behind it is read.
+    fn begin<O: Sink>(&mut self, head: Head, out: &mut O) -> Turned
+        ensures begins { Begins self.old head (O.held out.old) (O.held out.new) self.new result }
+        ensures later { O.faults out.old ≤ O.faults out.new }
+        ensures written { result ≡ Turned.Ended TalkEnd.WriteFault → Rose (O.faults out.old) (O.faults out.new) }
+        ensures unread { ¬ (result ≡ Turned.Ended TalkEnd.ReadFault) }
     {
+        if is_too_long(head.length) {
+            return Turned::Ended(refuse_long(self.alloc, out, is_bare(&head.method)));
+        }
         match Coming::of(self.alloc, &self.router, head) {
             Ok(coming) => {
                 self.coming = Some(coming);
@@ -181,14 +217,21 @@ impl Connection {
         }
     }
 
-    // A piece of the body has come, which follows a head.
-    fn gather(&mut self) -> Turned
-        ensures { Gathers self.old self.new result }
+    // A piece of the body has come, which follows a head. One with which the body is too long is answered at once.
+    fn gather<O: Sink>(&mut self, out: &mut O) -> Turned
+        ensures gathers { Gathers self.old (O.held out.old) (O.held out.new) self.new result }
+        ensures later { O.faults out.old ≤ O.faults out.new }
+        ensures written { result ≡ Turned.Ended TalkEnd.WriteFault → Rose (O.faults out.old) (O.faults out.new) }
+        ensures unread { ¬ (result ≡ Turned.Ended TalkEnd.ReadFault) }
     {
         let Some(coming) = &mut self.coming else {
             return Turned::Ended(TalkEnd::Bad);
         };
-        match coming.add(self.session.body()) {
+        let piece = self.session.body();
+        if !coming.has_room(piece) {
+            return Turned::Ended(refuse_long(self.alloc, out, coming.bare));
+        }
+        match coming.add(piece) {
             Ok(()) => Turned::More,
             Err(Memory) => Turned::Ended(TalkEnd::Memory),
         }
@@ -215,13 +258,10 @@ impl Connection {
         let Ok(answer) = answer_of(self.alloc, desk, clock, coming) else {
             return Turned::Ended(TalkEnd::Memory);
         };
-        let Ok(text) = text_of(self.alloc, answer, last) else {
-            return Turned::Ended(TalkEnd::Memory);
-        };
-        match out.write(&text) {
+        match write(self.alloc, out, answer, last) {
             Ok(()) if last => Turned::Ended(TalkEnd::Closed),
             Ok(()) => Turned::More,
-            Err(_) => Turned::Ended(TalkEnd::WriteFault),
+            Err(end) => Turned::Ended(end),
         }
     }
 
@@ -267,8 +307,8 @@ impl Connection {
     {
         match self.session.part(self.alloc) {
             Ok(Part::NeedInput) => self.read_on(input),
-            Ok(Part::Head(head)) => self.begin(head),
-            Ok(Part::Body) => self.gather(),
+            Ok(Part::Head(head)) => self.begin(head, out),
+            Ok(Part::Body) => self.gather(out),
             Ok(Part::BodyEnd) => self.answer(desk, clock, out),
             Ok(Part::InputEnd) => Turned::Ended(TalkEnd::Closed),
             Err(fault) => Turned::Ended(end_by(self.alloc, out, fault)),

@@ -28,6 +28,13 @@ pub(crate) const PUSH_NOTHING: &[u8] =
 pub(crate) const PUT_MANIFEST: &[u8] =
     b"PUT /v2/library/a/manifests/v1 HTTP/1.1\r\nHost: r\r\nContent-Type: application/vnd.oci.image.manifest.v1+json\r\nContent-Length: 357\r\n\r\n{\"schemaVersion\":2,\"config\":{\"digest\":\"sha256:44136fa355b3678a1146ad16f7e8649e94fb4fc21fe77e8310c060f61caaff8a\",\"size\":2},\"layers\":[{\"digest\":\"sha256:ba7816bf8f01cfea414140de5dae2223b00361a396177a9cb410ff61f20015ad\",\"size\":3},{\"digest\":\"sha256:e3b0c44298fc1c149afbf4c8996fb92427ae41e4649b934ca495991b7852b855\",\"size\":0}],\"annotations\":{\"a\":\"b\"},\"unknown\":1}";
 
+// The same, their bodies in chunks.
+const PUSH_ABC_IN_CHUNKS: &[u8] =
+    b"POST /v2/library/a/blobs/uploads/?digest=sha256%3Aba7816bf8f01cfea414140de5dae2223b00361a396177a9cb410ff61f20015ad HTTP/1.1\r\nTransfer-Encoding: Chunked\r\n\r\n01\r\na\r\n2;name=value\r\nbc\r\n0\r\nTrailer: value\r\n\r\n";
+
+const PUT_IN_CHUNKS: &[u8] =
+    b"PUT /v2/library/a/manifests/v1 HTTP/1.1\r\nContent-Type: application/vnd.oci.image.manifest.v1+json\r\nTransfer-Encoding: chunked\r\n\r\n1\r\n{\r\n11\r\n\"schemaVersion\":2\r\n52\r\n,\"config\":{\"digest\":\"sha256:44136fa355b3678a1146ad16f7e8649e94fb4fc21fe77e8310c060\r\n101\r\nf61caaff8a\",\"size\":2},\"layers\":[{\"digest\":\"sha256:ba7816bf8f01cfea414140de5dae2223b00361a396177a9cb410ff61f20015ad\",\"size\":3},{\"digest\":\"sha256:e3b0c44298fc1c149afbf4c8996fb92427ae41e4649b934ca495991b7852b855\",\"size\":0}],\"annotations\":{\"a\":\"b\"},\"unknown\":1}\r\n0\r\n\r\n";
+
 pub(crate) const GET_TAG: &[u8] =
     b"GET /v2/library/a/manifests/v1 HTTP/1.1\r\nHost: r\r\nContent-Length: 0\r\n\r\n";
 
@@ -87,6 +94,9 @@ const UNSUPPORTED_LAST: &[u8] =
 
 const TOO_LONG: &[u8] =
     b"HTTP/1.1 413 Payload Too Large\r\nConnection: close\r\nContent-Length: 73\r\nContent-Type: application/json\r\n\r\n{\"errors\":[{\"code\":\"SIZE_INVALID\",\"detail\":{},\"message\":\"size invalid\"}]}";
+
+const TOO_LONG_HEAD: &[u8] =
+    b"HTTP/1.1 413 Payload Too Large\r\nConnection: close\r\nContent-Length: 73\r\nContent-Type: application/json\r\n\r\n";
 
 const NO_METHOD: &[u8] =
     b"HTTP/1.1 405 Method Not Allowed\r\nContent-Length: 71\r\nContent-Type: application/json\r\n\r\n{\"errors\":[{\"code\":\"UNSUPPORTED\",\"detail\":{},\"message\":\"unsupported\"}]}";
@@ -240,7 +250,7 @@ fn each_refusal_has_its_answer(rt: HostRuntime) -> Result<(), Fail> {
         ),
         // a registry
         (b"GET /v2/ HTTP/1.1\r\n\r\n", BASE),
-        // what isn't built yet, whose body is dropped
+        // what isn't built yet, whose body is read
         (
             b"POST /harbor/jobs?kind=collect HTTP/1.1\r\nHost: r\r\nContent-Length: 3\r\n\r\nabc",
             UNSUPPORTED,
@@ -248,7 +258,7 @@ fn each_refusal_has_its_answer(rt: HostRuntime) -> Result<(), Fail> {
         // a HEAD, whose answer has no body
         (
             b"HEAD /v2/library/a/manifests/v1 HTTP/1.1\r\n\r\nGET /v2/ HTTP/1.1\r\n\r\n",
-            b"HTTP/1.1 404 Not Found\r\nContent-Length: 71\r\nContent-Type: application/json\r\n\r\nHTTP/1.1 200 OK\r\nContent-Length: 2\r\nContent-Type: application/json\r\n\r\n{}",
+            b"HTTP/1.1 404 Not Found\r\nContent-Length: 81\r\nContent-Type: application/json\r\n\r\nHTTP/1.1 200 OK\r\nContent-Length: 2\r\nContent-Type: application/json\r\n\r\n{}",
         ),
         // no path
         (b"GET /v3/ HTTP/1.1\r\n\r\n", UNSUPPORTED),
@@ -269,9 +279,9 @@ fn each_refusal_has_its_answer(rt: HostRuntime) -> Result<(), Fail> {
             b"GET /v2/library/a/blobs/sha256:0 HTTP/1.1\r\n\r\n",
             BAD_DIGEST,
         ),
-        // a body in chunks closes, and what stands behind it isn't answered
+        // a head that asks to close, and what stands behind it isn't answered
         (
-            b"POST /v2/library/a/blobs/uploads/?digest=sha256:ba7816bf8f01cfea414140de5dae2223b00361a396177a9cb410ff61f20015ad HTTP/1.1\r\nTransfer-Encoding: chunked\r\n\r\n3\r\nabc\r\n0\r\n\r\nGET /v2/ HTTP/1.1\r\n\r\n",
+            b"GET /v3/ HTTP/1.1\r\nConnection: close\r\n\r\nGET /v2/ HTTP/1.1\r\n\r\n",
             UNSUPPORTED_LAST,
         ),
     ];
@@ -283,20 +293,64 @@ fn each_refusal_has_its_answer(rt: HostRuntime) -> Result<(), Fail> {
     Ok(())
 }
 
-// A longer body than is gathered is dropped, and closes.
+// Bodies in chunks are read like those by length.
+#[test]
+fn an_image_is_pushed_in_chunks(rt: HostRuntime) -> Result<(), Fail> {
+    let alloc = rt.alloc();
+    let input = joined(
+        alloc,
+        &[
+            PUSH_CONFIG,
+            PUSH_ABC_IN_CHUNKS,
+            PUSH_NOTHING,
+            PUT_IN_CHUNKS,
+            GET_TAG,
+            GET_ABC,
+        ],
+    )?;
+    let output = joined(
+        alloc,
+        &[
+            CREATED_CONFIG,
+            CREATED_ABC,
+            CREATED_NOTHING,
+            CREATED_MANIFEST,
+            GOT_MANIFEST,
+            GOT_ABC,
+        ],
+    )?;
+    for cut in [1, 7, 65_536] {
+        let mut desk = world(alloc, &[], &[])?;
+        let (end, said) = answered(alloc, &mut desk, &input, cut)?;
+        assert_eq!(rt; end, TalkEnd::Closed);
+        assert_eq!(rt; said.as_slice(), output.as_slice(), "pieces of {cut}");
+    }
+    Ok(())
+}
+
+// A head that tells too long a body is answered at once, whatever its route, and nothing behind it is read.
 #[test]
 fn a_body_above_the_limit_is_refused(rt: HostRuntime) -> Result<(), Fail> {
     let alloc = rt.alloc();
-    let mut input = joined(
-        alloc,
-        &[b"PUT /v2/library/a/manifests/v1 HTTP/1.1\r\nContent-Length: 4194305\r\n\r\n"],
-    )?;
-    let body = vec![in alloc; 32u8; 4_194_305]?;
-    input.extend_from_slice(&body)?;
-    input.extend_from_slice(GET_TAG)?;
-    let (end, said) = plain(alloc, &[], &[], &input)?;
-    assert_eq!(rt; end, TalkEnd::Closed);
-    assert_eq!(rt; said.as_slice(), TOO_LONG);
+    let cases: [(&[u8], &[u8]); 3] = [
+        (
+            b"PUT /v2/library/a/manifests/v1 HTTP/1.1\r\nContent-Length: 4194305\r\n\r\n",
+            TOO_LONG,
+        ),
+        (
+            b"PUT /v2/ HTTP/1.1\r\nContent-Length: 4194305\r\n\r\nGET /v2/ HTTP/1.1\r\n\r\n",
+            TOO_LONG,
+        ),
+        (
+            b"HEAD /v2/library/a/manifests/v1 HTTP/1.1\r\nContent-Length: 4194305\r\n\r\n",
+            TOO_LONG_HEAD,
+        ),
+    ];
+    for (input, output) in cases {
+        let (end, said) = plain(alloc, &[], &[], input)?;
+        assert_eq!(rt; end, TalkEnd::Closed);
+        assert_eq!(rt; said.as_slice(), output);
+    }
     Ok(())
 }
 

@@ -1,13 +1,14 @@
-//! What a request wants, by its head.
+//! What a request wants, by its method and its target, and how long its body may be.
 ghost use Rattle.std.specs.Prelude.{◌≡◌, ◌≢◌, IfOk};
-ghost use Rattle.hb_talk.specs.Wanting.{Asks, WantsBy, is_short, wanted_of};
+ghost use Rattle.hb_talk.specs.Comings.{tells_too_long};
+ghost use Rattle.hb_talk.specs.Wanting.{Asks, wanted_of};
 
 use hb_http::Head;
 use hb_routes::{Route, RouteFault, Router};
 use hb_text::{Digest, Memory, Name, Reference};
 use std::alloc::Global;
 
-/// The most bytes of a body that is gathered: 4 MiB.
+/// The most bytes of data of a body: 4 MiB.
 pub(crate) const MAX_BODY: u64 = 4_194_304;
 
 /// What a request wants (OCI Distribution Specification 1.1, "Endpoints").
@@ -17,28 +18,16 @@ pub(crate) enum Wanted {
     Base,
     PushBlob { name: Name, digest: Digest },
     GetBlob { name: Name, digest: Digest },
+    /// Whether a blob is there.
+    HeadBlob { name: Name, digest: Digest },
     PutManifest { name: Name, reference: Reference },
     GetManifest { name: Name, reference: Reference },
+    /// Whether a manifest is there.
+    HeadManifest { name: Name, reference: Reference },
     /// What isn't built yet.
     Unbuilt,
     /// What has no route.
     Unrouted { fault: RouteFault },
-    /// Its body is longer than [`MAX_BODY`].
-    TooLong,
-    /// Its body comes in chunks, which aren't gathered yet.
-    InChunks,
-}
-
-impl Wanted {
-    ghost use Rattle.std.specs.Prelude.{◌≡◌};
-    ghost use Rattle.hb_talk.specs.Wanting.{keeps_body};
-
-    /// Whether the body is gathered. Another one is dropped.
-    pub(crate) fn keeps_body(&self) -> bool
-        ensures { result ≡ keeps_body self.now }
-    {
-        !matches!(self, Wanted::TooLong | Wanted::InChunks)
-    }
 }
 
 // What a route wants.
@@ -49,8 +38,10 @@ fn of_route(route: Route) -> Wanted
         Route::Base => Wanted::Base,
         Route::PushBlob { name, digest } => Wanted::PushBlob { name, digest },
         Route::GetBlob { name, digest } => Wanted::GetBlob { name, digest },
+        Route::HeadBlob { name, digest } => Wanted::HeadBlob { name, digest },
         Route::PutManifest { name, reference } => Wanted::PutManifest { name, reference },
         Route::GetManifest { name, reference } => Wanted::GetManifest { name, reference },
+        Route::HeadManifest { name, reference } => Wanted::HeadManifest { name, reference },
         _ => Wanted::Unbuilt,
     }
 }
@@ -65,8 +56,8 @@ fn unrouted(fault: RouteFault) -> Result<Wanted, Memory>
     }
 }
 
-// What method and target want.
-fn routed(alloc: Global, router: &Router, head: &Head) -> Result<Wanted, Memory>
+/// What method and target want.
+pub(crate) fn wants(alloc: Global, router: &Router, head: &Head) -> Result<Wanted, Memory>
     ensures { IfOk result (Asks head.now.method head.now.target) }
 {
     match router.route(alloc, head.method.bytes(), head.target.bytes()) {
@@ -75,25 +66,12 @@ fn routed(alloc: Global, router: &Router, head: &Head) -> Result<Wanted, Memory>
     }
 }
 
-/// Whether a body is gathered: its length is told, and at most [`MAX_BODY`].
-pub(crate) fn is_short(length: Option<u64>) -> bool
-    ensures { result ≡ is_short length }
+/// Whether the length that is told of a body, where one is, is above [`MAX_BODY`].
+pub(crate) fn is_too_long(length: Option<u64>) -> bool
+    ensures { result ≡ tells_too_long length }
 {
     match length {
-        Some(length) => length <= MAX_BODY,
+        Some(length) => length > MAX_BODY,
         None => false,
-    }
-}
-
-/// What a head wants. A body that isn't short comes before its route.
-pub(crate) fn wants(alloc: Global, router: &Router, head: &Head) -> Result<Wanted, Memory>
-    ensures { IfOk result (WantsBy head.now.length head.now.method head.now.target) }
-{
-    if is_short(head.length) {
-        return routed(alloc, router, head);
-    }
-    match head.length {
-        Some(_) => Ok(Wanted::TooLong),
-        None => Ok(Wanted::InChunks),
     }
 }

@@ -1,7 +1,7 @@
 use Rattle.std.proofs.Common.{ap}
-use Rattle.hb_talk.specs.Tasks.{base, route_error, task_of, too_long, unsupported}
+use Rattle.hb_talk.specs.Tasks.{base, route_error, task_of, unsupported}
 use Rattle.hb_talk.specs.Tasks.Task.{Refuses, Tells}
-use Rattle.hb_talk.proofs.Answering.{as-task, refused-worked, told-worked, unbuilt-task}
+use Rattle.hb_talk.proofs.Answering.{as-task, refused-worked, told-worked}
 use Rattle.hb_talk.proofs.serving.serve.Goals as goal
 
 pub returns-in-Base-clause-worked : goal.returns-in-Base-clause-worked
@@ -13,14 +13,8 @@ returns-in-Base-clause-worked g c =
 pub returns-in-Unbuilt-clause-worked : goal.returns-in-Unbuilt-clause-worked
 returns-in-Unbuilt-clause-worked g c =
     as-task _ _ (Refuses unsupported) (g.D.Desk.view c.args.desk.now) (g.D.Desk.view c.args.desk.now) (g.D.Desk.view c.args.desk.now).state c.unsupported.result
-    (unbuilt-task c.args.wanted c.args.media.now c.args.body c.in-Unbuilt.is)
+    (ap (λ w. task_of w c.args.media.now c.args.body) c.in-Unbuilt.is)
     (refused-worked _ unsupported (g.D.Desk.view c.args.desk.now) (g.D.Desk.view c.args.desk.now).state c.unsupported.result c.unsupported.ensures)
-
-pub returns-in-TooLong-clause-worked : goal.returns-in-TooLong-clause-worked
-returns-in-TooLong-clause-worked g c =
-    as-task _ _ (Refuses too_long) (g.D.Desk.view c.args.desk.now) (g.D.Desk.view c.args.desk.now) (g.D.Desk.view c.args.desk.now).state c.too_long.result
-    (ap (λ w. task_of w c.args.media.now c.args.body) c.in-TooLong.is)
-    (refused-worked _ too_long (g.D.Desk.view c.args.desk.now) (g.D.Desk.view c.args.desk.now).state c.too_long.result c.too_long.ensures)
 
 pub returns-in-Unrouted-clause-worked : goal.returns-in-Unrouted-clause-worked
 returns-in-Unrouted-clause-worked g c =

@@ -1,8 +1,13 @@
-use Rattle.std.proofs.Common.{◌∙◌, ap, subst, true}
+use Rattle.std.proofs.Common.{ap, subst, true, refl, inl, inr}
 use Rattle.hb_outside.specs.Streams.{Writes}
+use Rattle.hb_talk.specs.Progress.{Fails}
 use Rattle.hb_talk.specs.Texts.{answer_text}
 use Rattle.hb_talk.proofs.talks.refuse.Goals as goal
 
 pub returns-in-Ok-write-clause-ends : goal.returns-in-Ok-write-clause-ends
 returns-in-Ok-write-clause-ends g c =
-    subst (Writes (g.O.Sink.held c.args.out.now) (g.O.Sink.held c.write.new.self)) (c.deref.ensures.value ∙ (c.in-Ok-text_of.ensures ∙ ap (answer_text true) c.in-Ok.ensures)) c.in-Ok-write.ensures.bytes
+    inl (refl, subst (Writes (g.O.Sink.held c.args.out.now) (g.O.Sink.held c.write.new.out)) (ap (answer_text true) c.in-Ok.ensures) c.in-Ok-write.ensures.wrote)
+
+pub returns-in-Err-clause-ends : goal.returns-in-Err-clause-ends
+returns-in-Err-clause-ends g c =
+    inr (subst (λ text. Fails text (g.O.Sink.held c.args.out.now) (g.O.Sink.held c.write.new.out) c.in-Err.end) (ap (answer_text true) c.in-Ok.ensures) c.in-Err.ensures.fails)

@@ -1,47 +1,28 @@
 use Rattle.std.proofs.Common.{◌∙◌, Ok, Some, refl, subst, sym}
-use Rattle.hb_outside.specs.Streams.{Writes, WritesPart}
-use Rattle.hb_talk.specs.Progress.{Comes}
-use Rattle.hb_talk.proofs.Served.{served-chain, turn-of, turn-text}
+use Rattle.hb_base.specs.declared.memory.Memory.{Memory}
+use Rattle.hb_outside.specs.Streams.{Writes}
+use Rattle.hb_desk.specs.Points.{IsStreamFault}
+use Rattle.hb_talk.specs.Progress.{Answered, Comes}
+use Rattle.hb_talk.proofs.Served.{answered-fails, served-chain, turn-of, turn-text}
+use Rattle.hb_talk.proofs.talks.Connection.answer.Goals.{in-Ok-write, in-Ok-2, in-Err}
 use Rattle.hb_talk.proofs.talks.Connection.answer.Goals as goal
-
-pub returns-in-Ok-write-clause-answered : goal.returns-in-Ok-write-clause-answered
-returns-in-Ok-write-clause-answered g c = rw (← c.self.view_is) (λ given comes.
-    let mine = subst (λ coming. Comes coming (Some given)) (sym c.in-Some.ensures.value) comes in
-    let t = turn-of _ (g.D.Desk.view c.args.desk.now) (g.D.Desk.view c.answer_of.new.desk) given c.in-Some.coming.last c.in-Ok.answer (Ok c.in-Ok.answer) refl mine.0.closes (c.in-Ok.ensures.served given mine.0 mine.1) in (
-      t.turn,
-      t.next,
-      t.closes_is ∙ c.if-last.true,
-      turn-text (Writes (g.O.Sink.held c.args.out.now) (g.O.Sink.held c.write.new.self)) t.turn c.in-Some.coming.last c.in-Ok.answer c.deref.result.now t.closes_is t.answer_is
-          (c.deref.ensures.value ∙ c.in-Ok-text_of.ensures) c.in-Ok-write.ensures.bytes,
-    ))
-
-pub returns-in-Ok-2-clause-answered : goal.returns-in-Ok-2-clause-answered
-returns-in-Ok-2-clause-answered g c = rw (← c.self.view_is) (λ given comes.
-    let mine = subst (λ coming. Comes coming (Some given)) (sym c.in-Some.ensures.value) comes in
-    let t = turn-of _ (g.D.Desk.view c.args.desk.now) (g.D.Desk.view c.answer_of.new.desk) given c.in-Some.coming.last c.in-Ok.answer (Ok c.in-Ok.answer) refl mine.0.closes (c.in-Ok.ensures.served given mine.0 mine.1) in (
-      t.turn,
-      t.next,
-      t.closes_is ∙ c.if-last.false,
-      turn-text (Writes (g.O.Sink.held c.args.out.now) (g.O.Sink.held c.write.new.self)) t.turn c.in-Some.coming.last c.in-Ok.answer c.deref.result.now t.closes_is t.answer_is
-          (c.deref.ensures.value ∙ c.in-Ok-text_of.ensures) c.in-Ok-2.ensures.bytes,
-    ))
 
 pub returns-clause-answered : goal.returns-clause-answered
 returns-clause-answered g c = rw (← c.self.view_is) (λ given comes.
     let mine = subst (λ coming. Comes coming (Some given)) (sym c.in-Some.ensures.value) comes in
-    let t = turn-of _ (g.D.Desk.view c.args.desk.now) (g.D.Desk.view c.answer_of.new.desk) given c.in-Some.coming.last c.in-Ok.answer (Ok c.in-Ok.answer) refl mine.0.closes (c.in-Ok.ensures.served given mine.0 mine.1) in (
-      t.turn,
-      t.next,
-      turn-text (WritesPart (g.O.Sink.held c.args.out.now) (g.O.Sink.held c.write.new.self)) t.turn c.in-Some.coming.last c.in-Ok.answer c.deref.result.now t.closes_is t.answer_is
-          (c.deref.ensures.value ∙ c.in-Ok-text_of.ensures) c.in-Err.ensures.bytes,
-    ))
+    let served = c.in-Ok.ensures.served given mine in
+    let t = turn-of Memory (IsStreamFault g.row.D-Stage.Denot g.row.D-Reader.Denot g.D.Stage.Stage.faults g.D.Reader.Reader.faults) (g.D.Desk.view c.args.desk.now) (g.D.Desk.view c.answer_of.new.desk) given c.in-Some.coming c.in-Ok.answer mine (c.in-Ok.ensures.at_once given mine) served in
+    elim c.match-write.branch [
+      | in-Ok-write w ↦ subst (λ turned. Answered (IsStreamFault g.row.D-Stage.Denot g.row.D-Reader.Denot g.D.Stage.Stage.faults g.D.Reader.Reader.faults) (g.D.Desk.view c.args.desk.now) (g.D.Desk.view c.answer_of.new.desk) (g.O.Sink.held c.args.out.now) (g.O.Sink.held c.write.new.out) given turned) (sym w.result-is)
+          (t.turn, t.next, t.closes_is ∙ w.if-last.true, turn-text (Writes (g.O.Sink.held c.args.out.now) (g.O.Sink.held c.write.new.out)) t w.in-Ok-write.ensures.wrote)
+      | in-Ok-2 w ↦ subst (λ turned. Answered (IsStreamFault g.row.D-Stage.Denot g.row.D-Reader.Denot g.D.Stage.Stage.faults g.D.Reader.Reader.faults) (g.D.Desk.view c.args.desk.now) (g.D.Desk.view c.answer_of.new.desk) (g.O.Sink.held c.args.out.now) (g.O.Sink.held c.write.new.out) given turned) (sym w.result-is)
+          (t.turn, t.next, t.closes_is ∙ w.if-last.false, turn-text (Writes (g.O.Sink.held c.args.out.now) (g.O.Sink.held c.write.new.out)) t w.in-Ok-2.ensures.wrote)
+      | in-Err w ↦ subst (λ turned. Answered (IsStreamFault g.row.D-Stage.Denot g.row.D-Reader.Denot g.D.Stage.Stage.faults g.D.Reader.Reader.faults) (g.D.Desk.view c.args.desk.now) (g.D.Desk.view c.answer_of.new.desk) (g.O.Sink.held c.args.out.now) (g.O.Sink.held c.write.new.out) given turned) (sym w.result-is)
+          (answered-fails _ (g.D.Desk.view c.args.desk.now) (g.D.Desk.view c.answer_of.new.desk) given c.in-Some.coming.last c.in-Ok.answer (g.O.Sink.held c.args.out.now) (g.O.Sink.held c.write.new.out) w.in-Err.end t
+          (served-chain _ (g.D.Desk.view c.args.desk.now) (g.D.Desk.view c.answer_of.new.desk) given (g.D.Desk.view c.args.desk.now).state (Ok c.in-Ok.answer) served) w.in-Err.ensures.fails)
+    ])
 
 pub returns-in_default-answer_of-clause-answered : goal.returns-in_default-answer_of-clause-answered
 returns-in_default-answer_of-clause-answered g c = rw (← c.self.view_is) (λ given comes.
     let mine = subst (λ coming. Comes coming (Some given)) (sym c.in-Some.ensures.value) comes in
-    (served-chain _ (g.D.Desk.view c.args.desk.now) (g.D.Desk.view c.answer_of.new.desk) given (g.D.Desk.view c.args.desk.now).state c.answer_of.result (c.answer_of.ensures.served given mine.0 mine.1), refl))
-
-pub returns-in_default-text_of-clause-answered : goal.returns-in_default-text_of-clause-answered
-returns-in_default-text_of-clause-answered g c = rw (← c.self.view_is) (λ given comes.
-    let mine = subst (λ coming. Comes coming (Some given)) (sym c.in-Some.ensures.value) comes in
-    (served-chain _ (g.D.Desk.view c.args.desk.now) (g.D.Desk.view c.answer_of.new.desk) given (g.D.Desk.view c.args.desk.now).state c.answer_of.result (c.answer_of.ensures.served given mine.0 mine.1), refl))
+    (served-chain _ (g.D.Desk.view c.args.desk.now) (g.D.Desk.view c.answer_of.new.desk) given (g.D.Desk.view c.args.desk.now).state c.answer_of.result (c.answer_of.ensures.served given mine), refl))

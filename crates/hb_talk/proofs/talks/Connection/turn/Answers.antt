@@ -1,9 +1,9 @@
 use Rattle.std.proofs.Common.{Ok, ap, subst}
 use Rattle.hb_http.specs.Parts.{Gives}
 use Rattle.hb_http.specs.Readings.{ReadsOn}
-use Rattle.hb_talk.specs.Progress.{Begins, Reads}
+use Rattle.hb_talk.specs.Progress.{Begins, Gathers, Reads}
 use Rattle.hb_talk.specs.Turns.{given_by}
-use Rattle.hb_talk.proofs.Lessening.{less-head, less-input}
+use Rattle.hb_talk.proofs.Lessening.{less-body, less-head, less-input}
 use Rattle.hb_talk.proofs.Turning.{body-turn, closed-turn, end-turn, fault-turn, head-turn, input-turn}
 use Rattle.hb_talk.proofs.talks.Connection.turn.Goals as goal
 
@@ -27,25 +27,31 @@ pub returns-in-Ok-Head-clause-talk : goal.returns-in-Ok-Head-clause-talk
 returns-in-Ok-Head-clause-talk g c = rw (← c.self.view_is) (λ start so_far.
     let part = c.in-Ok-Head.ensures in
     let is = c.in-Ok-Head.field-0-is in
-    head-turn _ start _ _ so_far c.self.invariant.1 c.in-Ok-Head.head c.part.new.self c.begin.new.self c.begin.result
+    head-turn _ start _ _ so_far c.self.invariant.1 c.in-Ok-Head.head c.part.new.self (g.O.Sink.held c.begin.new.out) c.begin.new.self c.begin.result
     (subst (λ p. Gives c.self.inside.session (Ok p) c.part.new.self) is part.gives)
     (subst (λ p. ReadsOn (given_by so_far.turns) so_far.given so_far.gone c.self.inside.session (Ok p) c.part.new.self) is (part.reads (given_by so_far.turns) so_far.given so_far.gone so_far.reads))
-    c.begin.ensures)
+    c.begin.ensures.begins)
 
 pub returns-in-Ok-Head-clause-less : goal.returns-in-Ok-Head-clause-less
 returns-in-Ok-Head-clause-less g c = rw (← c.self.view_is) (λ more.
-    less-head (record { standing = c.self.inside.session; coming = c.self.inside.coming; taken = c.self.inside.taken }) c.in-Ok-Head.head c.part.new.self c.begin.new.self
+    less-head (record { standing = c.self.inside.session; coming = c.self.inside.coming; taken = c.self.inside.taken }) c.in-Ok-Head.head c.part.new.self (g.O.Sink.held c.args.out.now) (g.O.Sink.held c.begin.new.out) c.begin.new.self
     (subst (λ p. Gives c.self.inside.session (Ok p) c.part.new.self) c.in-Ok-Head.field-0-is c.in-Ok-Head.ensures.gives)
-    (subst (λ turned. Begins (record { standing = c.part.new.self; coming = c.self.inside.coming; taken = c.self.inside.taken }) c.in-Ok-Head.head c.begin.new.self turned) more c.begin.ensures))
+    (subst (λ turned. Begins (record { standing = c.part.new.self; coming = c.self.inside.coming; taken = c.self.inside.taken }) c.in-Ok-Head.head (g.O.Sink.held c.args.out.now) (g.O.Sink.held c.begin.new.out) c.begin.new.self turned) more c.begin.ensures.begins))
 
 pub returns-in-Ok-Body-clause-talk : goal.returns-in-Ok-Body-clause-talk
 returns-in-Ok-Body-clause-talk g c = rw (← c.self.view_is) (λ start so_far.
     let part = c.in-Ok-Body.ensures in
     let is = c.in-Ok-Body.field-0-is in
-    body-turn _ start _ _ so_far c.self.invariant.1 c.part.new.self c.gather.new.self c.gather.result
+    body-turn _ start _ _ so_far c.self.invariant.1 c.part.new.self (g.O.Sink.held c.gather.new.out) c.gather.new.self c.gather.result
     (subst (λ p. Gives c.self.inside.session (Ok p) c.part.new.self) is part.gives)
     (subst (λ p. ReadsOn (given_by so_far.turns) so_far.given so_far.gone c.self.inside.session (Ok p) c.part.new.self) is (part.reads (given_by so_far.turns) so_far.given so_far.gone so_far.reads))
-    c.gather.ensures)
+    c.gather.ensures.gathers)
+
+pub returns-in-Ok-Body-clause-less : goal.returns-in-Ok-Body-clause-less
+returns-in-Ok-Body-clause-less g c = rw (← c.self.view_is) (λ more.
+    less-body (record { standing = c.self.inside.session; coming = c.self.inside.coming; taken = c.self.inside.taken }) c.part.new.self (g.O.Sink.held c.args.out.now) (g.O.Sink.held c.gather.new.out) c.gather.new.self
+    (subst (λ p. Gives c.self.inside.session (Ok p) c.part.new.self) c.in-Ok-Body.field-0-is c.in-Ok-Body.ensures.gives)
+    (subst (λ turned. Gathers (record { standing = c.part.new.self; coming = c.self.inside.coming; taken = c.self.inside.taken }) (g.O.Sink.held c.args.out.now) (g.O.Sink.held c.gather.new.out) c.gather.new.self turned) more c.gather.ensures.gathers))
 
 pub returns-in-Ok-BodyEnd-clause-talk : goal.returns-in-Ok-BodyEnd-clause-talk
 returns-in-Ok-BodyEnd-clause-talk g c = rw (← c.self.view_is) (λ start so_far.
