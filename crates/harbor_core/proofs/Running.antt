@@ -1,15 +1,18 @@
 -- What a start leaves for a run.
-use Rattle.std.proofs.Common.{◌≡◌, ◌≤◌, ◌<◌, ℕ, List, [], ◌∷◌, length, Option, Some, None, IfSome, option_map, get_or, refl, sym, ap, subst, ◌∙◌, arith}
+use Rattle.std.proofs.Common.{◌≡◌, ◌≤◌, ◌<◌, ℕ, List, [], ◌∷◌, length, Option, Some, None, IfSome, option_map, get_or, refl, sym, ap, ◌∙◌, arith}
 use Rattle.hb_records.specs.declared.notes.Notes.{Notes}
 use Rattle.hb_rows.specs.Tables.{Tables}
-use Rattle.hb_model.specs.History.{latest}
 use Rattle.hb_model.specs.Whole.{no_notes}
 use Rattle.hb_desk.specs.Clause.{View}
 use Rattle.hb_desk.specs.Keeping.{state_of}
 use Rattle.hb_desk.specs.State.{State}
-use Rattle.hb_world.specs.Starting.{IsMisfit, Started, opened_by, start_moment}
+use Rattle.hb_world.specs.Starting.{IsMisfit, Refused, Started, opened_by, start_moment}
+use Rattle.hb_world.specs.declared.world.StartFault.{StartFault}
+use Rattle.hb_world.specs.declared.world.StartFault.TheVariants as start
+use Rattle.hb_talk.specs.declared.ends.TalkEnd.{TalkEnd}
+use Rattle.hb_talk.specs.declared.ends.TalkEnd.TheVariants as talk
 use Rattle.hb_model.proofs.FitLaws.{fits-apart}
-use Rattle.harbor_core.specs.Runs.{OpenedOn}
+use Rattle.harbor_core.specs.Runs.{OpenedOn, status_of, status_of_fault}
 
 pub one_item : {A : Type 0} (xs : List A) (x : A) → 1 ≤ length xs → length xs < 2 → x ≡ get_or xs 0 x → xs ≡ x ∷ []
 one_item [] x some few is = absurd (omega arith)
@@ -35,3 +38,21 @@ opened-on (Some t) opened now moment notes v started fresh is = record {
 pub left-rows : (rows : Option Tables) (notes : Notes) (state : Option State) → state ≡ option_map (λ r. state_of r notes) rows → IfSome rows (λ r. (n : Notes) × (state ≡ Some (state_of r n)))
 left-rows None notes state is = tt
 left-rows (Some r) notes state is = (notes, is)
+
+-- ---- the exit status of rows that don't fit
+-- no end of a talk has it
+pub talked-fits : (end : TalkEnd) → status_of end ≡ 8 → ⊥
+talked-fits talk.Closed is = cc is
+talked-fits talk.Cut is = cc is
+talked-fits talk.Bad is = cc is
+talked-fits talk.Long is = cc is
+talked-fits talk.ReadFault is = cc is
+talked-fits talk.WriteFault is = cc is
+talked-fits talk.Memory is = cc is
+
+-- a start that has it was refused for such rows
+pub refused-misfit : (rows after : Option Tables) (before now : ℕ) (fault : StartFault) → Refused rows before fault after now → status_of_fault fault ≡ 8 → IfSome rows (λ t. IsMisfit (Some t))
+refused-misfit None after before now fault refused is = tt
+refused-misfit (Some t) after before now (start.Misfit m) refused is = (m, refused.misfit m refl)
+refused-misfit (Some t) after before now start.Failed refused is = cc is
+refused-misfit (Some t) after before now start.Memory refused is = cc is

@@ -1,5 +1,5 @@
 -- A run of the program: what its words ask for, what a talk makes of its devices, and the exit status.
-use Rattle.std.specs.Prelude.{◌≡◌, ◌≤◌, ◌⊎◌, ℕ, List, [], ◌∷◌, codes, Option, Some, None, IfSome, is_some, true}
+use Rattle.std.specs.Prelude.{◌≡◌, ◌≤◌, ◌⊎◌, ℕ, List, [], ◌∷◌, codes, Option, Some, None, IfSome, is_some, true, false}
 use Rattle.hb_outside.specs.Causes.{Rose}
 use Rattle.hb_outside.specs.Streams.{Writes, WritesPart}
 use Rattle.hb_records.specs.declared.notes.Notes.{Notes}
@@ -81,6 +81,8 @@ pub record Left (after : Devices) (v : View) : Type 0 where
   pub rows : IfSome after.rows (λ r. (n : Notes) × (v.state ≡ Some (state_of r n)))
   pub keeper : after.keeper_faults ≡ v.keeper_faults
   pub store : after.store_faults ≡ v.store_faults
+  -- so no event was refused as spent where the audit had room
+  pub seat : v.spent ≡ false
 
 -- A talk ran at a desk that opened on the devices and left them, and its end gives the status.
 pub record RanTalk (Streams : Option Refusal → Type 0) (start now : View → Moment) (before after : Devices) (status : ℕ) : Type 0 where

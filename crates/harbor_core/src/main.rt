@@ -4,6 +4,8 @@
 mod run;
 #[cfg(test)]
 mod tests;
+#[cfg(test)]
+mod wire_tests;
 
 use crate::run::run;
 use hb_keeper::MemKeeper;

@@ -1,5 +1,5 @@
 //! The top call.
-ghost use Rattle.std.specs.Prelude.{◌≡◌, ◌↔◌, ◌≤◌, ◌⊎◌, codes, IsTrue};
+ghost use Rattle.std.specs.Prelude.{◌≡◌, ◌↔◌, ◌≤◌, ◌⊎◌, codes, IfSome, IsTrue, Some};
 ghost use Rattle.hb_outside.specs.Causes.{Rose};
 ghost use Rattle.hb_desk.specs.Points.{IsStreamFault};
 ghost use Rattle.hb_world.specs.Starting.{CanStart, IsAtRest, IsMisfit};
@@ -106,7 +106,7 @@ fn converse<K: Keeper, S: Store, C: Clock, I: Source, O: Sink>(
 /// | 4 | only where the sink's count of faults rose |
 /// | 5 | only where the keeper's count of faults rose, at the start |
 /// | 7 | want of memory, freely |
-/// | 8 | the rows don't fit, and nothing else but 5 and 7 comes then |
+/// | 8 | only where the rows don't fit, and nothing else but 5 and 7 comes then |
 /// | 10 | as many bytes were read as a connection may send, 2^62 |
 /// | 11 | the input ended inside a request, or is malformed or above the limits of a head |
 pub fn run<K: Keeper, S: Store, C: Clock, I: Source, O: Sink>(
@@ -127,6 +127,7 @@ pub fn run<K: Keeper, S: Store, C: Clock, I: Source, O: Sink>(
         result.status
         ⊎ NotStarted result.status (input.new ≡ input.old) (out.new ≡ out.old) (result.store ≡ store) (K.rows result.keeper ≡ K.rows keeper) }
     ensures misfit { IsTalk words.now → IsMisfit (K.rows keeper) → (result.status ≡ 8) ⊎ (result.status ≡ 5) ⊎ (result.status ≡ 7) }
+    ensures unfit { result.status ≡ 8 → IfSome (K.rows keeper) (λ t. IsMisfit (Some t)) }
     ensures rest { IsAtRest (K.rows keeper) (S.contents store) → IsAtRest (K.rows result.keeper) (S.contents result.store) }
     ensures words { (result.status ≡ 2) ↔ ¬ (IsTalk words.now) }
     ensures usage { ¬ (IsTalk words.now) → SaysUsage (O.held out.old) (O.held out.new) (O.faults out.old) (O.faults out.new) × (input.new ≡ input.old) × (result.keeper ≡ keeper) × (result.store ≡ store) }

@@ -14,23 +14,20 @@ use hb_text::{ProjectName, Text};
 use std::alloc::Global;
 use std::test::Fail;
 
-const PUSH: &[u8] =
+pub(crate) const PUSH: &[u8] =
     b"POST /v2/library/a/blobs/uploads/?digest=sha256:ba7816bf8f01cfea414140de5dae2223b00361a396177a9cb410ff61f20015ad HTTP/1.1\r\nHost: r\r\nContent-Length: 3\r\n\r\nabc";
 
 const PULL: &[u8] =
     b"GET /v2/library/a/blobs/sha256:ba7816bf8f01cfea414140de5dae2223b00361a396177a9cb410ff61f20015ad HTTP/1.1\r\nHost: r\r\n\r\n";
 
-const CREATED: &[u8] =
+pub(crate) const CREATED: &[u8] =
     b"HTTP/1.1 201 Created\r\nContent-Length: 0\r\nDocker-Content-Digest: sha256:ba7816bf8f01cfea414140de5dae2223b00361a396177a9cb410ff61f20015ad\r\nLocation: /v2/library/a/blobs/sha256:ba7816bf8f01cfea414140de5dae2223b00361a396177a9cb410ff61f20015ad\r\n\r\n";
 
-const PULLED: &[u8] =
+pub(crate) const PULLED: &[u8] =
     b"HTTP/1.1 200 OK\r\nContent-Length: 3\r\nContent-Type: application/octet-stream\r\nDocker-Content-Digest: sha256:ba7816bf8f01cfea414140de5dae2223b00361a396177a9cb410ff61f20015ad\r\n\r\nabc";
 
 const UNKNOWN: &[u8] =
     b"HTTP/1.1 404 Not Found\r\nContent-Length: 73\r\nContent-Type: application/json\r\n\r\n{\"errors\":[{\"code\":\"BLOB_UNKNOWN\",\"detail\":{},\"message\":\"blob unknown\"}]}";
-
-const UNSUPPORTED: &[u8] =
-    b"HTTP/1.1 404 Not Found\r\nConnection: close\r\nContent-Length: 71\r\nContent-Type: application/json\r\n\r\n{\"errors\":[{\"code\":\"UNSUPPORTED\",\"detail\":{},\"message\":\"unsupported\"}]}";
 
 const BAD_HEAD: &[u8] =
     b"HTTP/1.1 400 Bad Request\r\nConnection: close\r\nContent-Length: 73\r\nContent-Type: application/json\r\n\r\n{\"errors\":[{\"code\":\"HEAD_INVALID\",\"detail\":{},\"message\":\"head invalid\"}]}";
@@ -38,14 +35,14 @@ const BAD_HEAD: &[u8] =
 const HEAD_TOO_LONG: &[u8] =
     b"HTTP/1.1 431 Request Header Fields Too Large\r\nConnection: close\r\nContent-Length: 73\r\nContent-Type: application/json\r\n\r\n{\"errors\":[{\"code\":\"HEAD_INVALID\",\"detail\":{},\"message\":\"head invalid\"}]}";
 
-const BASE: &[u8] =
+pub(crate) const BASE: &[u8] =
     b"HTTP/1.1 200 OK\r\nContent-Length: 2\r\nContent-Type: application/json\r\n\r\n{}";
 
 const STORAGE: &[u8] =
     b"HTTP/1.1 500 Internal Server Error\r\nContent-Length: 63\r\nContent-Type: application/json\r\n\r\n{\"errors\":[{\"code\":\"STORAGE\",\"detail\":{},\"message\":\"storage\"}]}";
 
 // What docker pushes of an image with two layers, each blob in one request.
-const PUSH_CONFIG: &[u8] =
+pub(crate) const PUSH_CONFIG: &[u8] =
     b"POST /v2/library/a/blobs/uploads/?digest=sha256%3A44136fa355b3678a1146ad16f7e8649e94fb4fc21fe77e8310c060f61caaff8a HTTP/1.1\r\nHost: r\r\nContent-Length: 2\r\n\r\n{}";
 
 const PUSH_NOTHING: &[u8] =
@@ -59,7 +56,7 @@ const GET_TAG: &[u8] = b"GET /v2/library/a/manifests/v1 HTTP/1.1\r\nHost: r\r\n\
 const GET_DIGEST: &[u8] =
     b"GET /v2/library/a/manifests/sha256:9f0545606529702c3c00fe4dcc12aa9f6a01d0e1865e177c9f9f46da1121fbed HTTP/1.1\r\nHost: r\r\n\r\n";
 
-const CREATED_CONFIG: &[u8] =
+pub(crate) const CREATED_CONFIG: &[u8] =
     b"HTTP/1.1 201 Created\r\nContent-Length: 0\r\nDocker-Content-Digest: sha256:44136fa355b3678a1146ad16f7e8649e94fb4fc21fe77e8310c060f61caaff8a\r\nLocation: /v2/library/a/blobs/sha256:44136fa355b3678a1146ad16f7e8649e94fb4fc21fe77e8310c060f61caaff8a\r\n\r\n";
 
 const CREATED_NOTHING: &[u8] =
@@ -80,10 +77,10 @@ const KEEPER: &[u8] =
 const LONG_HEAD: &[u8] =
     b"POST /v2/library/a/blobs/uploads/?digest=sha256:ba7816bf8f01cfea414140de5dae2223b00361a396177a9cb410ff61f20015ad HTTP/1.1\r\nContent-Length: ";
 
-const FOUND_ZEROS: &[u8] =
+pub(crate) const FOUND_ZEROS: &[u8] =
     b"HTTP/1.1 400 Bad Request\r\nContent-Length: 158\r\nContent-Type: application/json\r\n\r\n{\"errors\":[{\"code\":\"DIGEST_INVALID\",\"detail\":{\"found\":\"sha256:bb9f8df61474d25e71fa00722318cd387396ca1736605e1248821cc0de3d3af8\"},\"message\":\"digest invalid\"}]}";
 
-const TOO_LONG: &[u8] =
+pub(crate) const TOO_LONG: &[u8] =
     b"HTTP/1.1 413 Payload Too Large\r\nConnection: close\r\nContent-Length: 73\r\nContent-Type: application/json\r\n\r\n{\"errors\":[{\"code\":\"SIZE_INVALID\",\"detail\":{},\"message\":\"size invalid\"}]}";
 
 // What a talk answers and how it ends.
@@ -114,12 +111,12 @@ fn talk(
 }
 
 // A talk over devices that don't fail.
-fn plain(alloc: Global, input: &[u8], cut: usize) -> Result<(u8, Vec<u8>), Fail> {
+pub(crate) fn plain(alloc: Global, input: &[u8], cut: usize) -> Result<(u8, Vec<u8>), Fail> {
     let store = MemStore::new(alloc, Vec::new(alloc));
     talk(alloc, input, cut, Vec::new(alloc), Vec::new(alloc), store)
 }
 
-fn joined(alloc: Global, pieces: &[&'static [u8]]) -> Result<Vec<u8>, Fail> {
+pub(crate) fn joined(alloc: Global, pieces: &[&'static [u8]]) -> Result<Vec<u8>, Fail> {
     let mut text = Vec::new(alloc);
     for piece in pieces {
         text.extend_from_slice(piece)?;
@@ -193,7 +190,7 @@ fn blobs_are_pushed_and_pulled_however_the_input_is_cut(rt: HostRuntime) -> Resu
 #[test]
 fn each_request_has_its_answer(rt: HostRuntime) -> Result<(), Fail> {
     let alloc = rt.alloc();
-    let cases: [(&[u8], &[u8]); 7] = [
+    let cases: [(&[u8], &[u8]); 6] = [
         (b"", b""),
         (PULL, UNKNOWN),
         // the empty blob
@@ -211,10 +208,6 @@ fn each_request_has_its_answer(rt: HostRuntime) -> Result<(), Fail> {
         (
             b"GET /v2/other/a/blobs/sha256:ba7816bf8f01cfea414140de5dae2223b00361a396177a9cb410ff61f20015ad HTTP/1.1\r\n\r\n",
             NO_NAME,
-        ),
-        (
-            b"POST /v2/library/a/blobs/uploads/?digest=sha256:ba7816bf8f01cfea414140de5dae2223b00361a396177a9cb410ff61f20015ad HTTP/1.1\r\nTransfer-Encoding: chunked\r\n\r\n3\r\nabc\r\n0\r\n\r\n",
-            UNSUPPORTED,
         ),
     ];
     for (input, output) in cases {
@@ -235,9 +228,6 @@ fn a_body_above_the_limit_is_refused(rt: HostRuntime) -> Result<(), Fail> {
         input.extend_from_slice(b"\r\n\r\n")?;
         let body = vec![in alloc; 0u8; 4_194_304]?;
         input.extend_from_slice(&body)?;
-        if length == "4194305" {
-            input.extend_from_slice(b"0")?;
-        }
         let (status, said) = plain(alloc, &input, 65_536)?;
         assert_eq!(rt; status, 0);
         assert_eq!(rt; said.as_slice(), answer);
@@ -248,8 +238,12 @@ fn a_body_above_the_limit_is_refused(rt: HostRuntime) -> Result<(), Fail> {
 #[test]
 fn what_is_cut_has_no_answer(rt: HostRuntime) -> Result<(), Fail> {
     let alloc = rt.alloc();
-    let cases: [&[u8]; 2] = [
+    let cases: [&[u8]; 4] = [
         b"GET /v2/ HTTP/1.1\r\n",
+        // a head without its last line feed
+        b"GET /v2/ HTTP/1.1\r\nHost: r\r\n\r",
+        // a body in chunks, within a chunk
+        b"PUT /v2/library/a/manifests/v1 HTTP/1.1\r\nTransfer-Encoding: chunked\r\n\r\n5\r\nabc",
         b"POST /v2/library/a/blobs/uploads/?digest=sha256:ba7816bf8f01cfea414140de5dae2223b00361a396177a9cb410ff61f20015ad HTTP/1.1\r\nContent-Length: 3\r\n\r\nab",
     ];
     for input in cases {
@@ -264,13 +258,38 @@ fn what_is_cut_has_no_answer(rt: HostRuntime) -> Result<(), Fail> {
 #[test]
 fn what_is_malformed_is_refused(rt: HostRuntime) -> Result<(), Fail> {
     let alloc = rt.alloc();
-    let cases: [&[u8]; 6] = [
+    let cases: [&[u8]; 26] = [
+        // what isn't HTTP
         b"\x16\x03\x01",
+        b"\0",
+        b" GET",
+        b"GE\x01",
+        b"GET /\x7f",
+        b"GET / HTTP/2",
+        b"GET /\xff HTTP/1.1\r\n",
+        // headers
+        b"GET / HTTP/1.1\r\nA : b\r\n",
+        b"GET / HTTP/1.1\r\nA: b\r\n c\r\n",
+        b"GET / HTTP/1.1\r\nA: \0",
+        // lengths
         b"GET /v2/ HTTP/1.1\r\nContent-Length: 1\r\nContent-Length: 2\r\n\r\n",
         b"GET /v2/ HTTP/1.1\r\nContent-Length: 01\r\n\r\n",
+        b"GET /v2/ HTTP/1.1\r\nContent-Length: 3, 3\r\n\r\n",
+        b"GET /v2/ HTTP/1.1\r\nContent-Length: +1\r\n\r\n",
+        b"GET /v2/ HTTP/1.1\r\nContent-Length:\r\n\r\n",
+        b"GET /v2/ HTTP/1.1\r\nContent-Length: 18446744073709551616\r\n\r\n",
+        // codings
         b"GET /v2/ HTTP/1.1\r\nContent-Length: 0\r\nTransfer-Encoding: chunked\r\n\r\n",
         b"GET /v2/ HTTP/1.1\r\nTransfer-Encoding: gzip\r\n\r\n",
+        b"GET /v2/ HTTP/1.1\r\nTransfer-Encoding: gzip, chunked\r\n\r\n",
+        b"GET /v2/ HTTP/1.1\r\nTransfer-Encoding: chunked\r\nTransfer-Encoding: chunked\r\n\r\n",
+        // chunks
         b"GET /v2/ HTTP/1.1\r\nTransfer-Encoding: chunked\r\n\r\nx\r\n",
+        b"GET /v2/ HTTP/1.1\r\nTransfer-Encoding: chunked\r\n\r\n\r\n",
+        b"GET /v2/ HTTP/1.1\r\nTransfer-Encoding: chunked\r\n\r\n00000000000000001",
+        b"GET /v2/ HTTP/1.1\r\nTransfer-Encoding: chunked\r\n\r\n1;a\n",
+        b"GET /v2/ HTTP/1.1\r\nTransfer-Encoding: chunked\r\n\r\n1\r\nab",
+        b"GET /v2/ HTTP/1.1\r\nTransfer-Encoding: chunked\r\n\r\n0\r\nT\n",
     ];
     for input in cases {
         let (status, said) = plain(alloc, input, 65_536)?;
@@ -404,7 +423,7 @@ fn other_words_are_answered_with_usage(rt: HostRuntime) -> Result<(), Fail> {
 }
 
 // These requests over this keeper: how it ends, and what was written.
-fn over(
+pub(crate) fn over(
     alloc: Global,
     keeper: MemKeeper,
     store: MemStore,

@@ -1,9 +1,9 @@
-use Rattle.std.proofs.Common.{◌≡◌, IfSome, Some, ap, inl, is_some, refl, subst, sym}
+use Rattle.std.proofs.Common.{◌≡◌, IfSome, Some, ap, inl, is_some, refl, subst, sym, ◌∙◌}
 use Rattle.hb_records.specs.declared.notes.Notes.{Notes}
 use Rattle.hb_desk.specs.Clause.{View}
 use Rattle.hb_desk.specs.Keeping.{state_of}
 use Rattle.hb_world.specs.Worlds.{shown, view_of}
-use Rattle.harbor_core.proofs.Running.{left-rows, opened-on, started-fits}
+use Rattle.harbor_core.proofs.Running.{left-rows, opened-on, refused-misfit, started-fits, talked-fits}
 use Rattle.harbor_core.proofs.run.run.Goals as goal
 
 pub returns-in-Ok-clause-talked : goal.returns-in-Ok-clause-talked
@@ -28,8 +28,15 @@ returns-in-Ok-clause-talked g c = λ talk.
         rows = subst (λ k. IfSome (g.K.Keeper.rows k) (λ r. (n : Notes) × (closed.state ≡ Some (state_of r n)))) (sym ran.3) (left-rows (g.K.Keeper.rows ran.1.keeper) ran.1.notes closed.state refl);
         keeper = ap (λ k. g.K.Keeper.faults k) ran.3;
         store = ap (λ s. g.S.Store.faults s) ran.4;
+        seat = refl;
       };
     })
 
 pub returns-in-Ok-clause-misfit : goal.returns-in-Ok-clause-misfit
 returns-in-Ok-clause-misfit g c = λ talk misfit. absurd (started-fits (g.K.Keeper.rows c.args.keeper) _ _ _ c.in-Ok.ensures.started misfit)
+
+pub returns-in-Ok-clause-unfit : goal.returns-in-Ok-clause-unfit
+returns-in-Ok-clause-unfit g c = λ is. absurd (talked-fits c.converse.ensures.talked.0 (sym c.converse.ensures.talked.2 ∙ is))
+
+pub returns-in-Err-clause-unfit : goal.returns-in-Err-clause-unfit
+returns-in-Err-clause-unfit g c = λ is. refused-misfit (g.K.Keeper.rows c.args.keeper) _ _ _ c.in-Err.refused.fault c.in-Err.ensures.refused (sym c.status_of_fault.ensures ∙ is)
