@@ -1,15 +1,17 @@
--- What stands behind the points of a caller's events at the end.
-use Rattle.std.proofs.Common.{◌≡◌, ℕ, suc, Bool, true, false, List, [], ◌∷◌, length, Option, Some, None, Ok, Err, IfSome, is_some, refl, sym, ap, subst, ◌∙◌, inl, inr}
+-- Chains of points: joined, and what stands behind them at the end.
+use Rattle.std.proofs.Common.{◌≡◌, ◌≤◌, ◌^◌, ℕ, suc, Bool, true, false, List, [], ◌∷◌, ◌++◌, length, Option, Some, None, Ok, Err, IfSome, IsSomeAnd, is_some, refl, sym, ap, subst, ◌∙◌, inl, inr, arith}
 use Rattle.std.specs.List.{AllByRecursion}
 use Rattle.hb_records.specs.Entries.{AuditEntry}
 use Rattle.hb_records.specs.declared.entries.EntryKind.{EntryKind}
 use Rattle.hb_desk.specs.Calls.{Outcome}
-use Rattle.hb_desk.specs.Chains.{Chain, IsSpentByReply, Stands}
-use Rattle.hb_desk.specs.Clause.{Fits, Leaves, MineGrows, View, is_fault, may_be_unmade}
+use Rattle.hb_desk.specs.Reply.{reply}
+use Rattle.hb_desk.specs.Chains.{Chain, IsSpentByReply, Stands, StandsBehind}
+use Rattle.hb_desk.specs.Clause.{Leaves, MineGrows, View, is_fault, may_be_unmade}
 use Rattle.hb_desk.specs.Events.{Event, acknowledged, after, entry_of, happens}
-use Rattle.hb_desk.specs.Points.{Point, point_of}
+use Rattle.hb_desk.specs.Points.{IsBetween, Moves, Point, StoodAt}
 use Rattle.hb_desk.specs.Prefix.{GoesOn}
 use Rattle.hb_desk.specs.State.{State}
+use Rattle.hb_desk.specs.declared.refusals.Refusal.TheVariants.{Spent}
 use Rattle.hb_desk.proofs.Histories.{entered-goes, events-go-on, goes-on}
 
 same-state : (s s' : State) → Some s ≡ Some s' → s ≡ s'
@@ -30,36 +32,52 @@ own-entry ev at s old new None is mine leaves here = tt
 own-entry ev at s old new (Some kind) is mine (inl made) here = (subst (λ x. GoesOn (happens ev at).audit x.audit) (same-state _ s (sym made ∙ here)) ([], refl), (mine.own refl).0)
 own-entry ev at s old new (Some kind) is mine (inr unmade) here = unmade-none new.spent ev.outcome _ kind unmade.0 is
 
-newest-stands : (p : Point) (at s : State) (old new : View) → p ≡ point_of old new at p.event.call p.event.outcome p.fault → MineGrows old new (length at.audit) (is_some (entry_of (record { call = p.event.call; moment = new.moment; outcome = p.event.outcome }) at)) → Leaves new (record { call = p.event.call; moment = new.moment; outcome = p.event.outcome }) at → new.state ≡ Some s → Stands s.audit (λ n. new.mine n ≡ true) p
-newest-stands p at s old new is mine leaves here = subst (λ q. Stands s.audit (λ n. new.mine n ≡ true) q) (sym is) (record { seen = event-goes ev at s new leaves here; own = own-entry ev at s old new (entry_of ev at) refl mine leaves here })
-  where
-    ev : Event
-    ev = record { call = p.event.call; moment = new.moment; outcome = p.event.outcome }
+event-stands : (ev : Event) (at s : State) (old new : View) → MineGrows old new (length at.audit) (is_some (entry_of ev at)) → Leaves new ev at → new.state ≡ Some s → Stands s.audit (λ n. new.mine n ≡ true) ev at
+event-stands ev at s old new mine leaves here = record { seen = event-goes ev at s new leaves here; own = own-entry ev at s old new (entry_of ev at) refl mine leaves here }
 
 -- ---- and it stays
-later-stands : (audit audit' : List AuditEntry) (mine mine' : ℕ → Bool) (p : Point) → GoesOn audit audit' → ((k : ℕ) → mine k ≡ true → mine' k ≡ true) → Stands audit (λ n. mine n ≡ true) p → Stands audit' (λ n. mine' n ≡ true) p
-later-stands audit audit' mine mine' p goes kept stands = record { seen = goes-on _ _ _ stands.seen goes; own = go (entry_of p.event p.state) stands.own }
+later-stands : (audit audit' : List AuditEntry) (mine mine' : ℕ → Bool) (ev : Event) (at : State) → GoesOn audit audit' → ((k : ℕ) → mine k ≡ true → mine' k ≡ true) → Stands audit (λ n. mine n ≡ true) ev at → Stands audit' (λ n. mine' n ≡ true) ev at
+later-stands audit audit' mine mine' ev at goes kept stands = record { seen = goes-on _ _ _ stands.seen goes; own = go (entry_of ev at) stands.own }
   where
-    go : (made : Option EntryKind) → IfSome made (λ kind. GoesOn (happens p.event p.state).audit audit × (mine (suc (length p.state.audit)) ≡ true)) → IfSome made (λ kind. GoesOn (happens p.event p.state).audit audit' × (mine' (suc (length p.state.audit)) ≡ true))
+    go : (made : Option EntryKind) → IfSome made (λ kind. GoesOn (happens ev at).audit audit × (mine (suc (length at.audit)) ≡ true)) → IfSome made (λ kind. GoesOn (happens ev at).audit audit' × (mine' (suc (length at.audit)) ≡ true))
     go None h = tt
     go (Some kind) h = (goes-on _ _ _ h.0 goes, kept _ h.1)
 
-all-stand : (audit audit' : List AuditEntry) (mine mine' : ℕ → Bool) (points : List Point) → GoesOn audit audit' → ((k : ℕ) → mine k ≡ true → mine' k ≡ true) → AllByRecursion (Stands audit (λ n. mine n ≡ true)) points → AllByRecursion (Stands audit' (λ n. mine' n ≡ true)) points
+all-stand : (audit audit' : List AuditEntry) (mine mine' : ℕ → Bool) (points : List Point) → GoesOn audit audit' → ((k : ℕ) → mine k ≡ true → mine' k ≡ true) → AllByRecursion (StandsBehind audit (λ n. mine n ≡ true)) points → AllByRecursion (StandsBehind audit' (λ n. mine' n ≡ true)) points
 all-stand audit audit' mine mine' [] goes kept h = tt
-all-stand audit audit' mine mine' (p ∷ points) goes kept h = (later-stands audit audit' mine mine' p goes kept h.0, all-stand audit audit' mine mine' points goes kept h.1)
+all-stand audit audit' mine mine' (p ∷ points) goes kept h = (go p.state h.0, all-stand audit audit' mine mine' points goes kept h.1)
+  where
+    go : (state : Option State) → IsSomeAnd state (Stands audit (λ n. mine n ≡ true) p.event) → IsSomeAnd state (Stands audit' (λ n. mine' n ≡ true) p.event)
+    go None h = absurd h
+    go (Some at) h = later-stands audit audit' mine mine' p.event at goes kept h
 
-pub chain-stands : (start now : View) (points : List Point) (s s' : State) → Chain start points now → start.state ≡ Some s → now.state ≡ Some s' → GoesOn s.audit s'.audit × AllByRecursion (Stands s'.audit (λ n. now.mine n ≡ true)) points
+-- a desk that told its state tells it behind its events
+told-behind : (start now : View) (points : List Point) (s : State) → start.state ≡ Some s → Chain start points now → (t : State) × (now.state ≡ Some t)
+told-behind start now [] s told chain = (s, ap (λ v. v.state) (sym chain) ∙ told)
+told-behind start now (p ∷ points) s told chain =
+    let mid = told-behind start chain.0 points s told chain.1 in
+    let stood = subst (λ state. StoodAt state chain.0 now p.event.call p.event.outcome p.state) mid.1 chain.2.stood in
+    elim stood.0.leaves [
+      | inl made ↦ (_, made)
+      | inr unmade ↦ (_, unmade.1)
+    ]
+
+pub chain-stands : (start now : View) (points : List Point) (s s' : State) → Chain start points now → start.state ≡ Some s → now.state ≡ Some s' → GoesOn s.audit s'.audit × AllByRecursion (StandsBehind s'.audit (λ n. now.mine n ≡ true)) points
 chain-stands start now [] s s' chain first last = (subst (λ x. GoesOn s.audit x.audit) (same-state s s' (sym first ∙ ap (λ v. v.state) chain ∙ last)) ([], refl), tt)
 chain-stands start now (p ∷ points) s s' chain first last =
     let mid = chain.0 in
-    let between = chain.2 in
-    let behind = chain-stands start mid points s between.before chain.1 first between.seen in
-    let at = after between.event.others between.before in
-    let goes = goes-on between.before.audit at.audit s'.audit (events-go-on between.event.others between.before) (event-goes (record { call = p.event.call; moment = now.moment; outcome = p.event.outcome }) at s' now between.event.leaves last) in (
-      goes-on s.audit between.before.audit s'.audit behind.0 goes,
+    let told = told-behind start mid points s first chain.1 in
+    let stood = subst (λ state. StoodAt state mid now p.event.call p.event.outcome p.state) told.1 chain.2.stood in
+    let event = stood.0 in
+    let at = after event.others told.0 in
+    let behind = chain-stands start mid points s told.0 chain.1 first told.1 in
+    let ev : Event = record { call = p.event.call; moment = now.moment; outcome = p.event.outcome } in
+    let newest = subst (λ ev. Stands s'.audit (λ n. now.mine n ≡ true) ev at) (sym (ap (λ (q : Point). q.event) chain.2.is)) (event-stands ev at s' mid now event.mine event.leaves last) in
+    let goes = goes-on told.0.audit at.audit s'.audit (events-go-on event.others told.0) (event-goes ev at s' now event.leaves last) in (
+      goes-on s.audit told.0.audit s'.audit behind.0 goes,
       (
-        newest-stands p at s' mid now between.is between.event.mine between.event.leaves last,
-        all-stand between.before.audit s'.audit mid.mine now.mine points goes between.event.mine.kept behind.1,
+        subst (λ state. IsSomeAnd state (Stands s'.audit (λ n. now.mine n ≡ true) p.event)) (sym stood.1) newest,
+        all-stand told.0.audit s'.audit mid.mine now.mine points goes event.mine.kept behind.1,
       ),
     )
 
@@ -68,13 +86,57 @@ not-yet : (before after : Bool) → (before ≡ true → after ≡ true) → aft
 not-yet false after stays left = refl
 not-yet true after stays left = let both : true ≡ false = sym (stays refl) ∙ left in cc both
 
-spent-by-reply : (p : Point) (at : State) (old new : View) → p ≡ point_of old new at p.event.call p.event.outcome p.fault → Fits new.spent (record { call = p.event.call; moment = new.moment; outcome = p.event.outcome }) at → new.spent ≡ false → IsSpentByReply p
-spent-by-reply p at old new is answered left = subst IsSpentByReply (sym is) (λ spent. sym (answered (ap (is_fault new.spent) spent ∙ left)) ∙ spent)
+-- where it was told, the reply spent it
+replied-spent : (p : Point) (old new : View) → IsBetween p old new → new.spent ≡ false → p.event.outcome ≡ Err Spent → IfSome p.state (λ s. (reply p.event.call s p.event.moment).outcome ≡ Err Spent)
+replied-spent p old new between left spent = go old.state between.stood
+  where
+    go : (state : Option State) → StoodAt state old new p.event.call p.event.outcome p.state → IfSome p.state (λ s. (reply p.event.call s p.event.moment).outcome ≡ Err Spent)
+    go None none = subst (λ at. IfSome at (λ s. (reply p.event.call s p.event.moment).outcome ≡ Err Spent)) (sym none) tt
+    go (Some s) stood =
+        let replied = sym (stood.0.answered (ap (is_fault new.spent) spent ∙ left)) ∙ spent in
+        subst (λ at. IfSome at (λ s. (reply p.event.call s p.event.moment).outcome ≡ Err Spent)) (sym stood.1)
+        (subst (λ t. (reply p.event.call (after stood.0.others s) t).outcome ≡ Err Spent) (sym (ap (λ (q : Point). q.event.moment) between.is)) replied)
 
-pub chain-spent : (start now : View) (points : List Point) → Chain start points now → now.spent ≡ false → AllByRecursion IsSpentByReply points
+full-here : (p : Point) (old new : View) → IsBetween p old new → new.spent ≡ false → p.event.outcome ≡ Err Spent → 2 ^ 62 ≤ new.entries
+full-here p old new between left spent = elim (between.spent spent) [
+  | inl gone ↦ let both : true ≡ false = sym gone ∙ left in cc both
+  | inr full ↦ full
+]
+
+later-spent : (n m : ℕ) (points : List Point) → n ≤ m → AllByRecursion (IsSpentByReply n) points → AllByRecursion (IsSpentByReply m) points
+later-spent n m [] more h = tt
+later-spent n m (p ∷ points) more h = (λ spent. (omega (arith, more, (h.0 spent).0), (h.0 spent).1), later-spent n m points more h.1)
+
+pub chain-spent : (start now : View) (points : List Point) → Chain start points now → now.spent ≡ false → AllByRecursion (IsSpentByReply now.entries) points
 chain-spent start now [] chain left = tt
 chain-spent start now (p ∷ points) chain left =
+    let mid = chain.0 in
     let between = chain.2 in (
-      spent-by-reply p (after between.event.others between.before) chain.0 now between.is between.event.answered left,
-      chain-spent start chain.0 points chain.1 (not-yet chain.0.spent now.spent between.moves.seat left),
+      (λ spent. (full-here p mid now between left spent, replied-spent p mid now between left spent)),
+      later-spent mid.entries now.entries points between.moves.entries (chain-spent start mid points chain.1 (not-yet mid.spent now.spent between.moves.seat left)),
     )
+
+-- ---- joined
+pub chain-append : (a b c : View) (points more : List Point) → Chain a points b → Chain b more c → Chain a (more ++ points) c
+chain-append a b c points [] one two = subst (λ v. Chain a points v) two one
+chain-append a b c points (p ∷ more) one two = (two.0, chain-append a b two.0 points more one two.1, two.2)
+
+-- no event changes whether bytes are told
+pub chain-bytes : (start now : View) (points : List Point) → Chain start points now → now.told_bytes ≡ start.told_bytes
+chain-bytes start now [] chain = ap (λ v. v.told_bytes) (sym chain)
+chain-bytes start now (p ∷ points) chain = chain.2.moves.told_bytes ∙ chain-bytes start chain.0 points chain.1
+
+-- ---- the numbers of a desk
+pub moves-none : (v : View) → Moves v v
+moves-none v = record { keeper_later = omega arith; store_later = omega arith; entries = omega arith; rises = omega arith; seat = λ h. h; sole = refl; told_bytes = refl }
+
+pub moves-on : (a b c : View) → Moves a b → Moves b c → Moves a c
+moves-on a b c one two = record {
+  keeper_later = omega (arith, one.keeper_later, two.keeper_later);
+  store_later = omega (arith, one.store_later, two.store_later);
+  entries = omega (arith, one.entries, two.entries);
+  rises = omega (arith, one.rises, two.rises);
+  seat = λ h. two.seat (one.seat h);
+  sole = two.sole ∙ one.sole;
+  told_bytes = two.told_bytes ∙ one.told_bytes;
+}

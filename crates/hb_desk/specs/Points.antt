@@ -1,5 +1,5 @@
 -- The points of an operation's events: where each stood, and what it was. The newest stands first.
-use Rattle.std.specs.Prelude.{◌≡◌, ◌≤◌, ◌⊎◌, ℕ, true, List, ◌∷◌, Option, Some, None, Err, IfSome}
+use Rattle.std.specs.Prelude.{◌≡◌, ◌≤◌, ◌⊎◌, ◌^◌, ℕ, true, List, ◌∷◌, Option, Some, None, Err, IfSome}
 use Rattle.hb_outside.specs.Causes.{Rose}
 use Rattle.hb_store.specs.Causes.{SomeRose}
 use Rattle.hb_desk.specs.Calls.{Call, Outcome}
@@ -7,11 +7,11 @@ use Rattle.hb_desk.specs.Clause.{View, EventFrom}
 use Rattle.hb_desk.specs.Events.{Event, after}
 use Rattle.hb_desk.specs.State.{State}
 use Rattle.hb_desk.specs.declared.refusals.Refusal.{Refusal}
-use Rattle.hb_desk.specs.declared.refusals.Refusal.TheVariants.{Memory, Keeper, Storage}
+use Rattle.hb_desk.specs.declared.refusals.Refusal.TheVariants.{Memory, Keeper, Storage, Spent}
 
 pub record Point : Type 0 where
-  -- what the event stood at
-  pub state : State
+  -- what the event stood at, where the desk tells what was seen
+  pub state : Option State
   pub event : Event
   -- the two counts of faults, before and after it
   pub keeper_before : ℕ
@@ -35,7 +35,7 @@ pub record IsCaused (p : Point) : Type 0 where
   pub storage : p.event.outcome ≡ Err Storage → Rose p.store_before p.store_after
 
 -- the point of an event between two views of a desk
-abbrev pub point_of : View → View → State → Call → Outcome → Option Refusal → Point
+abbrev pub point_of : View → View → Option State → Call → Outcome → Option Refusal → Point
 point_of old new state call outcome fault = record {
   state = state;
   event = record { call = call; moment = new.moment; outcome = outcome };
@@ -46,26 +46,6 @@ point_of old new state call outcome fault = record {
   fault = fault;
 }
 
--- What a call on a stage or a reader is refused for: want of memory, or the storage's fault, where the count of faults of
--- such a one rose.
-abbrev pub IsStreamFault : (Stage Reader : Type 0) → (Stage → ℕ) → (Reader → ℕ) → Option Refusal → Type 0
-IsStreamFault Stage Reader stage_faults reader_faults fault =
-    IfSome fault (λ refusal. (refusal ≡ Memory) ⊎ ((refusal ≡ Storage) × (SomeRose Stage stage_faults ⊎ SomeRose Reader reader_faults)))
-
--- One event of a desk, which adds its point to those of an operation. Streams says of a call on the stage or the reader
--- that it gave what that may be refused for.
-pub record Stepped {O : Type 0} (Streams : Option Refusal → Type 0) (before : State) (old new : View) (went went' : O → List Point → Type 0) : Type 0 where
-  pub call : Call
-  pub outcome : Outcome
-  pub fault : Option Refusal
-  pub event : EventFrom before old new call outcome
-  pub caused : IsCaused (point_of old new (after event.others before) call outcome fault)
-  pub stream : Streams fault
-  pub goes : (begun : O) (points : List Point) → went begun points → went' begun (point_of old new (after event.others before) call outcome fault ∷ points)
-
-abbrev pub Steps : {O : Type 0} → (Option Refusal → Type 0) → View → View → (O → List Point → Type 0) → (O → List Point → Type 0) → Type 0
-Steps Streams old new went went' = IfSome old.state (λ before. Stepped Streams before old new went went')
-
 -- the numbers of a desk over an event, whatever it was, and the seat, which stays spent
 pub record Moves (old new : View) : Type 0 where
   pub keeper_later : old.keeper_faults ≤ new.keeper_faults
@@ -75,3 +55,31 @@ pub record Moves (old new : View) : Type 0 where
   pub seat : old.spent ≡ true → new.spent ≡ true
   pub sole : new.sole ≡ old.sole
   pub told_bytes : new.told_bytes ≡ old.told_bytes
+
+-- where the event stood, if the desk tells what was seen: behind what others did before it
+abbrev pub StoodAt : Option State → View → View → Call → Outcome → Option State → Type 0
+StoodAt None old new call outcome at = at ≡ None
+StoodAt (Some before) old new call outcome at = (event : EventFrom before old new call outcome) × (at ≡ Some (after event.others before))
+
+-- The point is that of an event between these two views of a desk. A desk that doesn't tell what was seen tells at least
+-- what the event may have been refused for.
+pub record IsBetween (p : Point) (old new : View) : Type 0 where
+  pub is : p ≡ point_of old new p.state p.event.call p.event.outcome p.fault
+  pub stood : StoodAt old.state old new p.event.call p.event.outcome p.state
+  pub caused : IsCaused p
+  pub spent : p.event.outcome ≡ Err Spent → (new.spent ≡ true) ⊎ (2 ^ 62 ≤ new.entries)
+  pub moves : Moves old new
+
+-- What a call on a stage or a reader is refused for: want of memory, or the storage's fault, where the count of faults of
+-- such a one rose.
+abbrev pub IsStreamFault : (Stage Reader : Type 0) → (Stage → ℕ) → (Reader → ℕ) → Option Refusal → Type 0
+IsStreamFault Stage Reader stage_faults reader_faults fault =
+    IfSome fault (λ refusal. (refusal ≡ Memory) ⊎ ((refusal ≡ Storage) × (SomeRose Stage stage_faults ⊎ SomeRose Reader reader_faults)))
+
+-- One event of a desk, whose point joins those of an operation. Streams says of a call on the stage or the reader that it
+-- gave what that may be refused for.
+pub record Steps {O : Type 0} (Streams : Option Refusal → Type 0) (old new : View) (went went' : O → List Point → Type 0) : Type 0 where
+  pub point : Point
+  pub between : IsBetween point old new
+  pub stream : Streams point.fault
+  pub goes : (begun : O) (points : List Point) → went begun points → went' begun (point ∷ points)

@@ -5,7 +5,7 @@ ghost use Rattle.hb_records.specs.declared.entries.EntryKind.{EntryKind};
 ghost use Rattle.hb_records.specs.declared.notes.Sealed.{Sealed};
 ghost use Rattle.hb_model.specs.History.{History, Legal, latest};
 ghost use Rattle.hb_desk.specs.Calls.{Call, Outcome};
-ghost use Rattle.hb_desk.specs.Chains.{Chain, IsSpentByReply, Stands};
+ghost use Rattle.hb_desk.specs.Chains.{Chain, IsSpentByReply, StandsBehind};
 ghost use Rattle.hb_desk.specs.Clause.{AllFit, Between, Causes, EventOf, View, moves_seal};
 ghost use Rattle.hb_desk.specs.Events.{Event, after};
 ghost use Rattle.hb_desk.specs.Keeping.{AsksKeepWhole};
@@ -62,11 +62,12 @@ pub fn what_others_do_adds_up()
 pub fn points_stand_in_what_was_seen()
     ensures { (start now : View) (points : List Point) (s t : State) → Chain start points now
         → start.state ≡ Some s → now.state ≡ Some t
-        → GoesOn s.audit t.audit × AllByRecursion (Stands t.audit (λ n. now.mine n ≡ true)) points }
+        → GoesOn s.audit t.audit × AllByRecursion (StandsBehind t.audit (λ n. now.mine n ≡ true)) points }
 {}
 
-/// A caller whose seat isn't spent at the end was refused as spent only where the audit was full.
+/// A caller whose seat isn't spent at the end was refused as spent only where the audit was full; by the reply, where what
+/// was seen is told.
 pub fn only_a_full_audit_is_spent()
     ensures { (start now : View) (points : List Point) → Chain start points now → now.spent ≡ false
-        → AllByRecursion IsSpentByReply points }
+        → AllByRecursion (IsSpentByReply now.entries) points }
 {}

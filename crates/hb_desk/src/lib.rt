@@ -2,7 +2,7 @@
 //!
 //! - [`Desk`]: a registry as one caller meets it. Each call of it is one event, whose contract is `specs/Clause`.
 //! - [`Op`]: an operation, which makes one event a step. `specs/Points` says what its events were, and `specs/Chains` how
-//!   they stand one after another.
+//!   they stand one after another. [`drive`] makes them to its end.
 //! - [`Alone`]: a desk that lets [`Others`] act before each event.
 //! - [`Ask`], [`Told`], [`Refusal`], [`Opened`], [`Staged`]: what is asked and told. [`Answer`]: what is answered over HTTP.
 #![tactic(auto)]
@@ -30,7 +30,7 @@ pub use laws::{
     only_a_full_audit_is_spent, others_may_rest, points_stand_in_what_was_seen,
     what_is_replied_is_legal, what_others_do_adds_up, what_was_seen_stays,
 };
-pub use ops::{Op, Progress};
+pub use ops::{Op, Progress, drive};
 pub use refusals::Refusal;
 pub use seals::seal_of;
 pub use told::Told;

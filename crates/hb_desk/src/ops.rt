@@ -1,8 +1,10 @@
-ghost use Rattle.std.specs.Prelude.{◌≡◌, ◌<◌, ◌↔◌, ℕ, Bool, List, true, false};
+ghost use Rattle.std.specs.Prelude.{◌≡◌, ◌<◌, ◌↔◌, ℕ, Bool, List, [], true, false};
+ghost use Rattle.hb_desk.specs.Chains.{Driven};
 ghost use Rattle.hb_desk.specs.Clause.{View};
 ghost use Rattle.hb_desk.specs.Points.{IsStreamFault, Point, Steps, Moves};
 
 use crate::desk::Desk;
+use hb_outside::Clock;
 
 /// What a step of an operation says of it.
 #[derive(Clone, Copy, Debug, PartialEq, Eq)]
@@ -43,4 +45,22 @@ pub trait Op<D: Desk> {
         ensures done { result ≡ Progress.Done ↔ (done self.new ≡ true) }
         ensures more { result ≡ Progress.More → left self.new (D.view desk.new).entries < left self.old (D.view desk.old).entries }
         ensures fits { fits self.new (D.view desk.new) };
+}
+
+/// Makes the events of an operation that wants no body, to its end.
+pub fn drive<D: Desk, C: Clock, O: Op<D>>(desk: &mut D, clock: &mut C, op: &mut O)
+    requires ready { O.done op.old ≡ false }
+    requires fed { (x : O) → O.wants x ≡ false }
+    requires fits { O.fits op.old (D.view desk.old) }
+    ensures done { O.done op.new ≡ true }
+    ensures fits { O.fits op.new (D.view desk.new) }
+    ensures moves { Moves (D.view desk.old) (D.view desk.new) }
+    ensures driven { (begun : O) → O.since begun op.old [] → Driven (IsStreamFault D.Stage D.Reader D.Stage.faults D.Reader.faults) (D.view desk.old) (D.view desk.new) (O.since begun op.new) }
+{
+    loop {
+        match op.step(desk, clock.now()) {
+            Progress::Done => return,
+            Progress::More => {}
+        }
+    }
 }
