@@ -1,11 +1,11 @@
 //! Gets and checks over a desk on a store in memory, with ample memory.
-ghost use Rattle.std.specs.Prelude.{◌≡◌, ◌≤◌, false, None, IsErrOf};
+ghost use Rattle.std.specs.Prelude.{◌≡◌, ◌≤◌, IsErrOf};
 ghost use Rattle.hb_outside.specs.Causes.{Rose};
 ghost use Rattle.hb_desk.specs.declared.refusals.Refusal.TheVariants.{Keeper, Storage, Spent};
-ghost use Rattle.hb_ops.specs.Gets.{PhaseFits, is_ended};
 
 use crate::{Check, Checked, Get, Got};
-use hb_desk::{Ask, Desk, Op, Opened, Progress, Refusal, Staged, Told};
+use hb_desk::{Ask, Desk, Opened, Refusal, Staged, Told, drive};
+use hb_outside::StepClock;
 use hb_records::{Listed, SealedList};
 use hb_store::{MemReader, MemStage, MemStore, Reader, Stage, Store, StoreFault};
 use hb_text::{Digest, Name, Reference, Text};
@@ -163,19 +163,6 @@ fn desk(alloc: Global, bytes: &[u8], fails: &[u64]) -> Result<StoreDesk, Fail> {
     })
 }
 
-// Makes the events of a get, to its end.
-fn drive<D: Desk>(desk: &mut D, get: &mut Get)
-    requires ready { is_ended get.old.phase ≡ false }
-    requires fits { PhaseFits get.old.phase (D.view desk.old) }
-{
-    loop {
-        match get.step(desk, NOW) {
-            Progress::Done => return,
-            Progress::More => {}
-        }
-    }
-}
-
 // It ended with these bytes under this digest, and with a media type or none.
 fn is_content(get: &Get, digest: &Digest, bytes: &[u8], is_manifest: bool) -> bool {
     match get.end() {
@@ -227,7 +214,7 @@ fn a_blob_is_got(rt: HostRuntime) -> Result<(), Fail> {
     let digest = Digest::of(&bytes);
     let mut desk = desk(alloc, &bytes, &[])?;
     let mut get = Get::blob(alloc, name(alloc)?, digest);
-    drive(&mut desk, &mut get);
+    drive(&mut desk, &mut StepClock::new(NOW, 0), &mut get);
     assert!(rt; is_content(&get, &digest, &bytes, false));
     assert!(rt; desk.noted.is_none());
     Ok(())
@@ -239,7 +226,7 @@ fn a_manifest_is_got_and_its_pull_noted(rt: HostRuntime) -> Result<(), Fail> {
     let digest = Digest::of(b"{}");
     let mut desk = desk(alloc, b"{}", &[])?;
     let mut get = Get::manifest(alloc, name(alloc)?, Reference::Digest(digest))?;
-    drive(&mut desk, &mut get);
+    drive(&mut desk, &mut StepClock::new(NOW, 0), &mut get);
     assert!(rt; is_content(&get, &digest, b"{}", true));
     assert_eq!(rt; desk.noted, Some(digest));
     Ok(())
@@ -253,7 +240,7 @@ fn a_read_fails(rt: HostRuntime) -> Result<(), Fail> {
     let digest = Digest::of(&bytes);
     let mut desk = desk(alloc, &bytes, &[2])?;
     let mut get = Get::blob(alloc, name(alloc)?, digest);
-    drive(&mut desk, &mut get);
+    drive(&mut desk, &mut StepClock::new(NOW, 0), &mut get);
     assert!(rt; is_refused(&get, &Refusal::Storage));
     Ok(())
 }
@@ -264,7 +251,7 @@ fn an_open_is_refused(rt: HostRuntime) -> Result<(), Fail> {
     let mut desk = desk(alloc, b"{}", &[])?;
     let digest = Digest::of(b"other");
     let mut get = Get::manifest(alloc, name(alloc)?, Reference::Digest(digest))?;
-    drive(&mut desk, &mut get);
+    drive(&mut desk, &mut StepClock::new(NOW, 0), &mut get);
     assert!(rt; is_refused(&get, &Refusal::Storage));
     assert!(rt; desk.noted.is_none());
     Ok(())
@@ -274,7 +261,7 @@ fn an_open_is_refused(rt: HostRuntime) -> Result<(), Fail> {
 fn checked<D: Desk>(desk: &mut D, mut check: Check) -> Option<Checked>
     requires { check.ended ≡ None }
 {
-    let _done = check.step(desk, NOW);
+    drive(desk, &mut StepClock::new(NOW, 0), &mut check);
     check.into_end()
 }
 
