@@ -1,5 +1,5 @@
 -- What an event makes of a push, and what its points decide.
-use Rattle.std.proofs.Common.{◌≡◌, ℕ, Bool, true, false, cond, List, [], ◌∷◌, ◌++◌, length, Option, Some, None, Ok, Err, IfSome, IsSomeAnd, is_some, inl, inr, refl, sym, ap, subst, ◌∙◌, arith}
+use Rattle.std.proofs.Common.{◌≡◌, ℕ, Bool, true, false, cond, List, [], ◌∷◌, ◌++◌, length, Option, Some, None, Ok, Err, IsSomeAnd, is_some, inl, inr, refl, sym, ap, subst, ◌∙◌, arith}
 use Rattle.hb_text.specs.Digests.{digest_of}
 use Rattle.hb_text.specs.declared.digests.Digest.{Digest}
 use Rattle.hb_store.specs.Bytes.{Appends}
@@ -8,11 +8,9 @@ use Rattle.hb_store.specs.declared.store.StoreFault.{StoreFault}
 use Rattle.hb_store.specs.declared.store.StoreFault.TheVariants as store
 use Rattle.hb_model.specs.Words.{same_digest}
 use Rattle.hb_history.proofs.Settled.{exact-digest}
-use Rattle.hb_desk.specs.Calls.{Asked, Call, Gave, Tells, StageAt, Outcome}
-use Rattle.hb_desk.specs.Clause.{Causes, EventFrom, EventOf, Seals, View}
-use Rattle.hb_desk.specs.Events.{after}
-use Rattle.hb_desk.specs.Points.{IsStreamFault, Point, Stepped, point_of}
-use Rattle.hb_desk.specs.State.{State}
+use Rattle.hb_desk.specs.Calls.{Asked, Call, Tells, StageAt, Outcome}
+use Rattle.hb_desk.specs.Clause.{Causes, EventOf, Seals, View}
+use Rattle.hb_desk.specs.Points.{IsStreamFault, Point, Steps, point_of}
 use Rattle.hb_desk.specs.declared.told.Told.TheVariants as told
 use Rattle.hb_desk.specs.declared.refusals.Refusal.{Refusal}
 use Rattle.hb_desk.specs.declared.refusals.Refusal.TheVariants.{Memory, Storage}
@@ -22,7 +20,8 @@ use Rattle.hb_desk.specs.Noting.{seal_of}
 use Rattle.hb_desk.specs.declared.asks.Ask.{Ask}
 use Rattle.hb_desk.specs.declared.asks.Ask.TheVariants.{ShowProject, TouchBlob, BeginUpload, EndUpload, Seal, SealManifest, Settle, PutArtifact, Look, NotePull}
 use Rattle.hb_desk.specs.declared.told.Told.{Told}
-use Rattle.hb_upload.specs.Deciding.{decided, earlier, first_stop, or_pushed, refused_by, stops_at, unless_right}
+use Rattle.hb_desk.proofs.Stepping.{between-by, stood-at}
+use Rattle.hb_upload.specs.Deciding.{begun_by, decided, earlier, first_stop, or_pushed, refused_by, stops_at, unless_right}
 use Rattle.hb_upload.specs.Phases.{CalledAt, IsStageFault, OneEvent, PhaseFits, place_at}
 use Rattle.hb_upload.specs.Places.{Parcel, seal_by, seal_with, settle_by, settle_with, CallAt, Calls, Place, Beginning, Staging, Sealing, Placing, Settling, Ending, Dropping, Stopped, next, place_of, staged}
 use Rattle.hb_upload.specs.Pushes.{IsReady, PushParts, Went, of_upload, parcel_of, put_of}
@@ -34,12 +33,10 @@ use Rattle.hb_upload.specs.declared.phase.Stop.{Stop}
 use Rattle.hb_upload.specs.declared.phase.Stop.TheVariants.{Pushed, WrongDigest, Refused}
 
 -- ---- one event
-pub one-event : {T : Type 0} (Streams : Option Refusal → Type 0) (b : Parcel) (old new : View) (now : ℕ) (made call : Call) (outcome : Outcome) (fault : Option Refusal) (at : Place) (p : Phase T) → made ≡ call → EventOf old new made outcome → Causes old new now made outcome → Streams fault → place_at p ≡ next b at new.moment outcome fault → IfSome old.state (λ s. OneEvent Streams b s old new call at p)
-one-event {T = T} Streams b old new now made call outcome fault at p is event causes stream leads = go old.state (subst (λ call. EventOf old new call outcome) is event)
-  where
-    go : (state : Option State) → IfSome state (λ s. EventFrom s old new call outcome) → IfSome state (λ s. OneEvent {T = T} Streams b s old new call at p)
-    go None e = tt
-    go (Some s) e = record { outcome = outcome; fault = fault; event = e; caused = record { keeper = causes.keeper; storage = causes.storage }; stream = stream; leads = leads }
+pub one-event : {T : Type 0} (Streams : Option Refusal → Type 0) (b : Parcel) (old new : View) (now : ℕ) (made call : Call) (outcome : Outcome) (fault : Option Refusal) (at : Place) (p : Phase T) → made ≡ call → EventOf old new made outcome → Causes old new now made outcome → Streams fault → place_at p ≡ next b at new.moment outcome fault → OneEvent Streams b old new call at p
+one-event Streams b old new now made call outcome fault at p is event causes stream leads =
+    let stood = stood-at old.state old new made outcome event in
+    record { point = point_of old new stood.0 made outcome fault; between = between-by old new now stood.0 made outcome fault stood.1 causes; calls = is; stream = stream; leads = leads }
 
 -- the points of a push go on
 went-on : {T : Type 0} (begun push after : PushParts T) (p : Point) (points : List Point) → after.parcel ≡ push.parcel → CallAt push.parcel (place_at push.phase) p.event.call → place_at after.phase ≡ next push.parcel (place_at push.phase) p.event.moment p.event.outcome p.fault → Went begun push points → Went begun after (p ∷ points)
@@ -49,17 +46,15 @@ went-on begun push after p points same called leads went = record {
   at = leads ∙ ap (λ at. next push.parcel at p.event.moment p.event.outcome p.fault) went.at ∙ ap (λ b. next b (place_of b points) p.event.moment p.event.outcome p.fault) (sym same);
 }
 
-pub stepped : {T : Type 0} (Streams : Option Refusal → Type 0) (state : Option State) (old new : View) (push after : PushParts T) → after.parcel ≡ push.parcel → IfSome state (λ s. CalledAt Streams push.parcel s old new (place_at push.phase) after.phase) → IfSome state (λ s. Stepped Streams s old new (λ begun points. Went begun push points) (λ begun points. Went begun after points))
-stepped Streams None old new push after same called = tt
-stepped Streams (Some s) old new push after same called = record {
-  call = called.call;
-  outcome = called.one.outcome;
-  fault = called.one.fault;
-  event = called.one.event;
-  caused = called.one.caused;
-  stream = called.one.stream;
-  goes = λ begun points went. went-on begun push after (point_of old new _ called.call called.one.outcome called.one.fault) points same called.called called.one.leads went;
-}
+pub stepped : {T : Type 0} (Streams : Option Refusal → Type 0) (old new : View) (push after : PushParts T) → after.parcel ≡ push.parcel → CalledAt Streams push.parcel old new (place_at push.phase) after.phase → Steps Streams old new (λ begun points. Went begun push points) (λ begun points. Went begun after points)
+stepped Streams old new push after same called =
+    let one = called.one in
+    record {
+      point = one.point;
+      between = one.between;
+      stream = one.stream;
+      goes = λ begun points went. went-on begun push after one.point points same (subst (CallAt push.parcel (place_at push.phase)) (sym one.calls) called.called) one.leads went;
+    }
 
 -- ---- what the points decide
 abbrev some_stop : Stop → Option Stop
@@ -80,15 +75,11 @@ earlier-none (Some stop) = refl
 right-stop : (b : Parcel) (upload : ℕ) → stop_in (staged b upload) ≡ unless_right b None
 right-stop b upload = elim (same_digest (digest_of b.bytes) b.digest) as (λ r. stop_in (cond r (Sealing upload) (Ending upload true (WrongDigest (digest_of b.bytes)))) ≡ cond r None (Some (WrongDigest (digest_of b.bytes)))) [ true ↦ refl | false ↦ refl ]
 
-begun-stop : (b : Parcel) (t : ℕ) (gave : Gave) → stop_in (next b Beginning t (Ok gave) None) ≡ None
-begun-stop b t (Tells (told.Begun upload)) = refl
-begun-stop b t (Tells _) = refl
-begun-stop b t _ = refl
-
-begin-stop : (b : Parcel) (t : ℕ) (outcome : Outcome) (fault : Option Refusal) → stop_in (next b Beginning t outcome fault) ≡ refused_by t outcome fault
+begin-stop : (b : Parcel) (t : ℕ) (outcome : Outcome) (fault : Option Refusal) → stop_in (next b Beginning t outcome fault) ≡ begun_by t outcome
 begin-stop b t (Err refusal) fault = refl
-begin-stop b t (Ok gave) (Some refusal) = refl
-begin-stop b t (Ok gave) None = begun-stop b t gave
+begin-stop b t (Ok (Tells (told.Begun upload))) fault = refl
+begin-stop b t (Ok (Tells _)) fault = refl
+begin-stop b t (Ok _) fault = refl
 
 stage-stop : (b : Parcel) (upload : ℕ) (t : ℕ) (outcome : Outcome) (fault : Option Refusal) → stop_in (next b (Staging upload) t outcome fault) ≡ unless_right b (refused_by t outcome fault)
 stage-stop b upload t (Err refusal) fault = refl
@@ -187,9 +178,8 @@ pub bytes-appended : (told : Bool) (old new : Option (List ℕ)) (piece : List �
 bytes-appended told old new piece offset none there appends h = appended old new piece offset none (there h) appends
 
 -- ---- one event by the phase
-pub called : {T : Type 0} (Streams : Option Refusal → Type 0) (b : Parcel) (state : Option State) (old new : View) (call : Call) (at here : Place) (p : Phase T) → at ≡ here → CallAt b here call → IfSome state (λ s. OneEvent Streams b s old new call here p) → IfSome state (λ s. CalledAt Streams b s old new at p)
-called Streams b None old new call at here p is made event = tt
-called Streams b (Some s) old new call at here p is made event = record { call = call; called = subst (λ at. CallAt b at call) (sym is) made; one = subst (λ at. OneEvent Streams b s old new call at p) (sym is) event }
+pub called : {T : Type 0} (Streams : Option Refusal → Type 0) (b : Parcel) (old new : View) (call : Call) (at here : Place) (p : Phase T) → at ≡ here → CallAt b here call → OneEvent Streams b old new call here p → CalledAt Streams b old new at p
+called Streams b old new call at here p is made event = record { call = call; called = subst (λ at. CallAt b at call) (sym is) made; one = subst (λ at. OneEvent Streams b old new call at p) (sym is) event }
 
 pub ending-at : {T : Type 0} (upload : ℕ) (stage : Option T) (stop : Stop) → place_at (phase.End upload stage stop) ≡ Ending upload (is_some stage) stop
 ending-at upload (Some stage) stop = refl

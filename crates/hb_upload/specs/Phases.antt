@@ -3,12 +3,10 @@ use Rattle.std.specs.Prelude.{◌≡◌, ◌⊎◌, ℕ, Bool, true, false, List
 use Rattle.hb_text.specs.declared.digests.Digest.{Digest}
 use Rattle.hb_text.specs.Digests.{digest_of}
 use Rattle.hb_store.specs.Causes.{SomeRose}
-use Rattle.hb_desk.specs.Calls.{Call, Outcome, StageAt}
-use Rattle.hb_desk.specs.Clause.{EventFrom, View}
-use Rattle.hb_desk.specs.Events.{after}
+use Rattle.hb_desk.specs.Calls.{Call, StageAt}
+use Rattle.hb_desk.specs.Clause.{View}
 use Rattle.hb_desk.specs.Notes.{sealed_at}
-use Rattle.hb_desk.specs.Points.{IsCaused, point_of}
-use Rattle.hb_desk.specs.State.{State}
+use Rattle.hb_desk.specs.Points.{IsBetween, Point}
 use Rattle.hb_desk.specs.declared.refusals.Refusal.{Refusal}
 use Rattle.hb_desk.specs.declared.refusals.Refusal.TheVariants.{Memory, Storage}
 use Rattle.hb_upload.specs.Places.{Parcel, CallAt, Place, Beginning, Staging, Sealing, Placing, Settling, Ending, Dropping, Stopped, next}
@@ -60,13 +58,12 @@ abbrev pub IsStageFault : (Stage : Type 0) → (Stage → ℕ) → Option Refusa
 IsStageFault Stage faults fault = IfSome fault (λ refusal. (refusal ≡ Memory) ⊎ ((refusal ≡ Storage) × SomeRose Stage faults))
 
 -- One event from a place of a push to the next. Streams says what a call on the stage that it gave may be refused for.
-pub record OneEvent {T : Type 0} (Streams : Option Refusal → Type 0) (b : Parcel) (before : State) (old new : View) (call : Call) (at : Place) (p : Phase T) : Type 0 where
-  pub outcome : Outcome
-  pub fault : Option Refusal
-  pub event : EventFrom before old new call outcome
-  pub caused : IsCaused (point_of old new (after event.others before) call outcome fault)
-  pub stream : Streams fault
-  pub leads : place_at p ≡ next b at new.moment outcome fault
+pub record OneEvent {T : Type 0} (Streams : Option Refusal → Type 0) (b : Parcel) (old new : View) (call : Call) (at : Place) (p : Phase T) : Type 0 where
+  pub point : Point
+  pub between : IsBetween point old new
+  pub calls : point.event.call ≡ call
+  pub stream : Streams point.fault
+  pub leads : place_at p ≡ next b at point.event.moment point.event.outcome point.fault
 
 -- where a push goes on behind a stage that was taken at this moment: by what the calls on it were refused for, if they were
 pub record GoesOn {T : Type 0} (Streams : Option Refusal → Type 0) (b : Parcel) (upload offset moment : ℕ) (p : Phase T) : Type 0 where
@@ -75,7 +72,7 @@ pub record GoesOn {T : Type 0} (Streams : Option Refusal → Type 0) (b : Parcel
   pub leads : place_at p ≡ next b (Staging upload) moment (Ok (StageAt offset)) fault
 
 -- one event by the call that a push makes there
-pub record CalledAt {T : Type 0} (Streams : Option Refusal → Type 0) (b : Parcel) (before : State) (old new : View) (at : Place) (p : Phase T) : Type 0 where
+pub record CalledAt {T : Type 0} (Streams : Option Refusal → Type 0) (b : Parcel) (old new : View) (at : Place) (p : Phase T) : Type 0 where
   pub call : Call
   pub called : CallAt b at call
-  pub one : OneEvent Streams b before old new call at p
+  pub one : OneEvent Streams b old new call at p

@@ -10,6 +10,7 @@ use Rattle.hb_desk.specs.declared.asks.Ask.{Ask}
 use Rattle.hb_desk.specs.declared.asks.Ask.TheVariants.{BeginUpload, EndUpload, Seal, SealManifest, Settle, PutArtifact}
 use Rattle.hb_desk.specs.declared.told.Told.TheVariants.{Begun}
 use Rattle.hb_desk.specs.declared.refusals.Refusal.{Refusal}
+use Rattle.hb_desk.specs.declared.refusals.Refusal.TheVariants.{Memory}
 use Rattle.hb_upload.specs.declared.phase.Stop.{Stop}
 use Rattle.hb_upload.specs.declared.phase.Stop.TheVariants.{Pushed, WrongDigest, Refused}
 
@@ -52,12 +53,12 @@ pub data Place : Type 0 where
 abbrev pub staged : Parcel → ℕ → Place
 staged b upload = if same_digest (digest_of b.bytes) b.digest then Sealing upload else Ending upload true (WrongDigest (digest_of b.bytes))
 
--- Where it goes on, by the moment of an event, by what that answered, and by the refusal of a call on what it gave.
+-- Where it goes on, by the moment of an event, by what that answered, and by the refusal of a call on the stage that it
+-- gave. No upload that begins is told anything but its number.
 abbrev pub next : Parcel → Place → ℕ → Outcome → Option Refusal → Place
 next b Beginning t (Err refusal) fault = Stopped (Refused refusal t)
-next b Beginning t (Ok gave) (Some refusal) = Stopped (Refused refusal t)
-next b Beginning t (Ok (Tells (Begun upload))) None = Staging upload
-next b Beginning t (Ok gave) None = Beginning
+next b Beginning t (Ok (Tells (Begun upload))) fault = Staging upload
+next b Beginning t (Ok gave) fault = Stopped (Refused Memory t)
 next b (Staging upload) t (Err refusal) fault = Ending upload false (Refused refusal t)
 next b (Staging upload) t (Ok gave) (Some refusal) = Ending upload true (Refused refusal t)
 next b (Staging upload) t (Ok gave) None = staged b upload

@@ -1,8 +1,9 @@
 //! The events of a push, one each.
-ghost use Rattle.std.specs.Prelude.{◌≡◌, ◌<◌, ℕ, List, true, false, length, Some, None, IfSome, IsSomeAnd, is_some};
+ghost use Rattle.std.specs.Prelude.{◌≡◌, ◌<◌, ℕ, List, true, false, length, Ok, Some, None, IfSome, IsSomeAnd, is_some};
+ghost use Rattle.std.specs.declared.option.Option.{Option};
 ghost use Rattle.hb_text.specs.Digests.{digest_of};
 ghost use Rattle.hb_model.specs.Words.{same_digest};
-ghost use Rattle.hb_desk.specs.Calls.{Asked, StageTaken, StagePlaced, StageDropped};
+ghost use Rattle.hb_desk.specs.Calls.{Asked, StageTaken, StagePlaced, StageDropped, Tells};
 ghost use Rattle.hb_desk.specs.Clause.{View};
 ghost use Rattle.hb_desk.specs.Notes.{sealed_at};
 ghost use Rattle.hb_desk.specs.Noting.{seal_of};
@@ -10,8 +11,8 @@ ghost use Rattle.hb_desk.specs.declared.asks.Ask.{Ask as Asking};
 ghost use Rattle.hb_text.specs.declared.digests.Digest.{Digest as AnyDigest};
 ghost use Rattle.hb_desk.specs.Points.{IsStreamFault, Moves};
 ghost use Rattle.hb_desk.specs.declared.asks.Ask.TheVariants.{BeginUpload, EndUpload};
-ghost use Rattle.hb_upload.specs.Phases.{GoesOn, HasBytes, IsStageFault, OneEvent, PhaseFits, left_of};
-ghost use Rattle.hb_upload.specs.Places.{Parcel, seal_with, settle_with, Beginning, Staging, Sealing, Placing, Settling, Ending, Dropping};
+ghost use Rattle.hb_upload.specs.Phases.{GoesOn, HasBytes, IsStageFault, OneEvent, PhaseFits, left_of, place_at};
+ghost use Rattle.hb_upload.specs.Places.{Parcel, next, seal_with, settle_with, Beginning, Staging, Sealing, Placing, Settling, Ending, Dropping};
 ghost use Rattle.hb_upload.specs.Pushes.{parcel_of};
 ghost use Rattle.hb_upload.specs.declared.phase.Phase.TheVariants as phase;
 ghost use Rattle.hb_upload.specs.declared.phase.Stop.{Stop as Stopping};
@@ -22,21 +23,32 @@ use hb_desk::{Ask, Desk, Refusal, Staged, Told};
 use hb_store::Stage;
 use hb_text::Digest;
 
+// Where a push goes on whose upload was told so at this moment.
+fn begun<T>(told: Told, moment: u64) -> Phase<T>
+    ensures leads { (b : Parcel) → place_at result ≡ next b Beginning moment (Ok (Tells told)) None }
+    ensures fits { (upload_of size_of : T → ℕ) (bytes_of : T → Option (List ℕ)) (digest : AnyDigest) (bytes : List ℕ) (v : View) → PhaseFits upload_of size_of bytes_of digest bytes result v }
+    ensures falls { left_of result < 7 }
+{
+    match told {
+        Told::Begun { upload } => Phase::Stage { upload },
+        _ => Phase::Ended {
+            stop: Stop::Refused {
+                refusal: Refusal::Memory,
+                moment,
+            },
+        },
+    }
+}
+
 /// The upload begins.
 pub(crate) fn begin_step<D: Desk>(desk: &mut D, ask: &Ask, now: u64) -> Phase<D::Stage>
-    ensures event { (b : Parcel) → ask.now ≡ BeginUpload b.name → IfSome (D.view desk.old).state (λ s. OneEvent (IsStreamFault D.Stage D.Reader D.Stage.faults D.Reader.faults) b s (D.view desk.old) (D.view desk.new) (Asked (BeginUpload b.name)) Beginning result) }
+    ensures event { (b : Parcel) → ask.now ≡ BeginUpload b.name → OneEvent (IsStreamFault D.Stage D.Reader D.Stage.faults D.Reader.faults) b (D.view desk.old) (D.view desk.new) (Asked (BeginUpload b.name)) Beginning result }
     ensures moves { Moves (D.view desk.old) (D.view desk.new) }
     ensures fits { (digest : AnyDigest) (bytes : List ℕ) → PhaseFits D.Stage.upload D.Stage.size D.Stage.bytes digest bytes result (D.view desk.new) }
     ensures falls { left_of result < 7 }
 {
     match desk.ask(ask, now) {
-        Ok(Told::Begun { upload }) => Phase::Stage { upload },
-        Ok(_) => Phase::Ended {
-            stop: Stop::Refused {
-                refusal: Refusal::Memory,
-                moment: desk.moment(),
-            },
-        },
+        Ok(told) => begun(told, desk.moment()),
         Err(refusal) => Phase::Ended {
             stop: Stop::Refused {
                 refusal,
@@ -103,7 +115,7 @@ pub(crate) fn stage_step<D: Desk>(
     now: u64,
 ) -> Phase<D::Stage>
     requires { given.now.found ≡ digest_of given.now.bytes }
-    ensures event { (seal : Asking) → IfSome (D.view desk.old).state (λ s. OneEvent (IsStreamFault D.Stage D.Reader D.Stage.faults D.Reader.faults) (parcel_of given.now seal) s (D.view desk.old) (D.view desk.new) (StageTaken given.now.name upload None) (Staging upload) result) }
+    ensures event { (seal : Asking) → OneEvent (IsStreamFault D.Stage D.Reader D.Stage.faults D.Reader.faults) (parcel_of given.now seal) (D.view desk.old) (D.view desk.new) (StageTaken given.now.name upload None) (Staging upload) result }
     ensures moves { Moves (D.view desk.old) (D.view desk.new) }
     ensures fits { PhaseFits D.Stage.upload D.Stage.size D.Stage.bytes given.now.digest given.now.bytes result (D.view desk.new) }
     ensures falls { left_of result < 6 }
@@ -131,7 +143,7 @@ pub(crate) fn seal_step<D: Desk>(
 ) -> Phase<D::Stage>
     requires seals { seal_of ask.now ≡ Some (record { upload = upload; digest = given.now.digest; size = length given.now.bytes }) }
     requires stage { HasBytes D.Stage.upload D.Stage.size D.Stage.bytes given.now.digest given.now.bytes upload stage (D.view desk.old) }
-    ensures event { (b : Parcel) → ask.now ≡ seal_with upload b → IfSome (D.view desk.old).state (λ s. OneEvent (IsStreamFault D.Stage D.Reader D.Stage.faults D.Reader.faults) b s (D.view desk.old) (D.view desk.new) (Asked (seal_with upload b)) (Sealing upload) result) }
+    ensures event { (b : Parcel) → ask.now ≡ seal_with upload b → OneEvent (IsStreamFault D.Stage D.Reader D.Stage.faults D.Reader.faults) b (D.view desk.old) (D.view desk.new) (Asked (seal_with upload b)) (Sealing upload) result }
     ensures moves { Moves (D.view desk.old) (D.view desk.new) }
     ensures fits { PhaseFits D.Stage.upload D.Stage.size D.Stage.bytes given.now.digest given.now.bytes result (D.view desk.new) }
     ensures falls { left_of result < 5 }
@@ -159,7 +171,7 @@ pub(crate) fn place_step<D: Desk>(
 ) -> Phase<D::Stage>
     requires stage { HasBytes D.Stage.upload D.Stage.size D.Stage.bytes given.now.digest given.now.bytes upload stage (D.view desk.old) }
     requires own { sealed_at upload (D.view desk.old).sealed ≡ Some (record { upload = upload; digest = given.now.digest; size = length given.now.bytes }) }
-    ensures event { (seal : Asking) → IfSome (D.view desk.old).state (λ s. OneEvent (IsStreamFault D.Stage D.Reader D.Stage.faults D.Reader.faults) (parcel_of given.now seal) s (D.view desk.old) (D.view desk.new) (StagePlaced upload given.now.digest) (Placing upload) result) }
+    ensures event { (seal : Asking) → OneEvent (IsStreamFault D.Stage D.Reader D.Stage.faults D.Reader.faults) (parcel_of given.now seal) (D.view desk.old) (D.view desk.new) (StagePlaced upload given.now.digest) (Placing upload) result }
     ensures moves { Moves (D.view desk.old) (D.view desk.new) }
     ensures fits { PhaseFits D.Stage.upload D.Stage.size D.Stage.bytes given.now.digest given.now.bytes result (D.view desk.new) }
     ensures falls { left_of result < 4 }
@@ -177,7 +189,7 @@ pub(crate) fn place_step<D: Desk>(
 
 /// The project gets what was placed.
 pub(crate) fn settle_step<D: Desk>(desk: &mut D, ask: &Ask, now: u64) -> Phase<D::Stage>
-    ensures event { (b : Parcel) (upload : ℕ) → ask.now ≡ settle_with upload b → IfSome (D.view desk.old).state (λ s. OneEvent (IsStreamFault D.Stage D.Reader D.Stage.faults D.Reader.faults) b s (D.view desk.old) (D.view desk.new) (Asked (settle_with upload b)) (Settling upload) result) }
+    ensures event { (b : Parcel) (upload : ℕ) → ask.now ≡ settle_with upload b → OneEvent (IsStreamFault D.Stage D.Reader D.Stage.faults D.Reader.faults) b (D.view desk.old) (D.view desk.new) (Asked (settle_with upload b)) (Settling upload) result }
     ensures moves { Moves (D.view desk.old) (D.view desk.new) }
     ensures fits { (digest : AnyDigest) (bytes : List ℕ) → PhaseFits D.Stage.upload D.Stage.size D.Stage.bytes digest bytes result (D.view desk.new) }
     ensures falls { left_of result < 3 }
@@ -202,7 +214,7 @@ pub(crate) fn end_step<D: Desk>(
     now: u64,
 ) -> Phase<D::Stage>
     requires { IfSome stage (λ s. D.Stage.upload s ≡ upload) }
-    ensures event { (b : Parcel) → IfSome (D.view desk.old).state (λ s. OneEvent (IsStreamFault D.Stage D.Reader D.Stage.faults D.Reader.faults) b s (D.view desk.old) (D.view desk.new) (Asked (EndUpload 0 upload)) (Ending upload (is_some stage) stop) result) }
+    ensures event { (b : Parcel) → OneEvent (IsStreamFault D.Stage D.Reader D.Stage.faults D.Reader.faults) b (D.view desk.old) (D.view desk.new) (Asked (EndUpload 0 upload)) (Ending upload (is_some stage) stop) result }
     ensures moves { Moves (D.view desk.old) (D.view desk.new) }
     ensures fits { (digest : AnyDigest) (bytes : List ℕ) → PhaseFits D.Stage.upload D.Stage.size D.Stage.bytes digest bytes result (D.view desk.new) }
     ensures falls { left_of result < 2 }
@@ -227,7 +239,7 @@ pub(crate) fn drop_step<D: Desk>(
     now: u64,
 ) -> Phase<D::Stage>
     requires { D.Stage.upload stage ≡ upload }
-    ensures event { (b : Parcel) → IfSome (D.view desk.old).state (λ s. OneEvent (IsStreamFault D.Stage D.Reader D.Stage.faults D.Reader.faults) b s (D.view desk.old) (D.view desk.new) (StageDropped upload true) (Dropping upload stop) result) }
+    ensures event { (b : Parcel) → OneEvent (IsStreamFault D.Stage D.Reader D.Stage.faults D.Reader.faults) b (D.view desk.old) (D.view desk.new) (StageDropped upload true) (Dropping upload stop) result }
     ensures moves { Moves (D.view desk.old) (D.view desk.new) }
     ensures fits { (digest : AnyDigest) (bytes : List ℕ) → PhaseFits D.Stage.upload D.Stage.size D.Stage.bytes digest bytes result (D.view desk.new) }
     ensures falls { left_of result < 1 }

@@ -1,12 +1,12 @@
 //! Pushes and puts over a world in memory, with ample memory.
-ghost use Rattle.std.specs.Prelude.{◌≡◌, false, length, IfOk};
+ghost use Rattle.std.specs.Prelude.{◌≡◌, length, IfOk};
 ghost use Rattle.hb_text.specs.Digests.{digest_of};
-ghost use Rattle.hb_upload.specs.Phases.{PhaseFits, is_ended};
 ghost use Rattle.hb_upload.specs.declared.phase.Phase.TheVariants as phase;
 
 use crate::{Push, Stop};
-use hb_desk::{Desk, Op, Progress, Refusal};
+use hb_desk::{Desk, Refusal, drive};
 use hb_keeper::MemKeeper;
+use hb_outside::StepClock;
 use hb_records::{Duplicate, Listed, PutAsk};
 use hb_store::MemStore;
 use hb_text::{Digest, Name, Reference, Tag, Text};
@@ -27,19 +27,6 @@ fn world(alloc: Global, keeper_fails: &[u64], store_fails: &[u64]) -> Result<Mem
     match World::start(alloc, keeper, store, NOW) {
         Ok(world) => Ok(world),
         Err(refused) => Err(refused.fault)?,
-    }
-}
-
-// Makes the events of a push, to its end.
-fn drive<D: Desk>(desk: &mut D, push: &mut Push<D>, now: u64)
-    requires ready { is_ended push.old.phase ≡ false }
-    requires fits { PhaseFits D.Stage.upload D.Stage.size D.Stage.bytes push.old.parcel.digest push.old.parcel.bytes push.old.phase (D.view desk.old) }
-{
-    loop {
-        match push.step(desk, now) {
-            Progress::Done => return,
-            Progress::More => {}
-        }
     }
 }
 
@@ -74,7 +61,7 @@ fn ended<D: Desk>(push: &Push<D>) -> Option<End> {
 fn driven<D: Desk>(desk: &mut D, mut push: Push<D>, now: u64) -> Option<End>
     requires { push.phase ≡ phase.Begin }
 {
-    drive(desk, &mut push, now);
+    drive(desk, &mut StepClock::new(now, 0), &mut push);
     ended(&push)
 }
 
