@@ -1,12 +1,12 @@
 -- What came of the operations of requests, and their answers.
-use Rattle.std.proofs.Common.{◌≡◌, ◌≢◌, ◌⊎◌, if◌then◌else◌, ℕ, true, false, List, [], Option, Some, None, Result, Ok, Err, IfOk, IfSome, codes, inl, inr, refl, sym, ap, subst, ◌∙◌}
+use Rattle.std.proofs.Common.{◌≡◌, ◌≢◌, ◌⊎◌, if◌then◌else◌, ℕ, true, false, List, [], Option, Some, Result, Ok, Err, IfErr, IfOk, codes, inl, inr, refl, sym, ap, subst, ◌∙◌}
 use Rattle.hb_text.specs.Digests.{digest_of}
 use Rattle.hb_text.specs.declared.digests.Digest.{Digest}
 use Rattle.hb_text.specs.declared.references.Reference.{Reference}
 use Rattle.hb_http.specs.AnswerHeads.{HasPhrase}
+use Rattle.hb_desk.specs.Chains.{Driven}
 use Rattle.hb_desk.specs.Clause.{View}
 use Rattle.hb_desk.specs.Points.{Point}
-use Rattle.hb_desk.specs.State.{State}
 use Rattle.hb_desk.specs.declared.answers.Answer.{Answer}
 use Rattle.hb_desk.specs.declared.refusals.Refusal.{Refusal}
 use Rattle.hb_upload.specs.Deciding.{decided}
@@ -25,9 +25,10 @@ use Rattle.hb_ops.specs.declared.gets.Phase.TheVariants as get
 use Rattle.hb_manifest.specs.Forms.{manifest_form}
 use Rattle.hb_manifest.specs.declared.manifests.ManifestFault.{ManifestFault}
 use Rattle.hb_manifest.specs.declared.manifests.ManifestFault.TheVariants as manifest
-use Rattle.hb_talk.specs.Driving.{Driven, IsRefused, Worked}
-use Rattle.hb_talk.specs.Tasks.{Task, checked_answer, got_answer, location_of, manifest_error, manifest_task, names_other, push_answer, task_of, wrong_digest}
+use Rattle.hb_talk.specs.Driving.{IsRefused, Worked}
+use Rattle.hb_talk.specs.Tasks.{Makes, Task, checked_answer, got_answer, location_of, manifest_error, manifest_task, names_other, push_answer, task_of, wrong_digest}
 use Rattle.hb_talk.specs.Tasks.Task.{Pushes, Gets, Checks, Refuses, Tells}
+use Rattle.hb_talk.specs.Turns.{IsDone, IsLeft}
 use Rattle.hb_talk.specs.declared.wanted.Wanted.TheVariants.{PutManifest}
 
 -- ---- each status that is answered has a phrase
@@ -49,16 +50,16 @@ manifest-phrase manifest.NoSchema = refl
 manifest-phrase manifest.TooMany = refl
 
 -- ---- a task without an event
+pub not-begun : {E : Type 0} (Streams : Option Refusal → Type 0) (task : Task) (v : View) (e : E) → Worked Streams task v v (Err e)
+not-begun Streams task v e = record { points = []; chain = refl; done = tt; left = inl refl }
 
-pub refused-worked : {E : Type 0} (Streams : Option Refusal → Type 0) (error : ErrorForm) (v : View) (state : Option State) (result : Result Answer E) → IfOk result (λ a. a ≡ error_answer error) → IfSome state (λ s. Worked Streams (Refuses error) v v result)
-refused-worked Streams error v None result is = tt
-refused-worked Streams error v (Some s) (Err e) is = record { points = []; chain = refl; done = tt }
-refused-worked Streams error v (Some s) (Ok a) is = record { points = []; chain = refl; done = ([], record { makes = refl; answers = is; reads = tt; streams = tt }) }
+pub refused-worked : {E : Type 0} (Streams : Option Refusal → Type 0) (error : ErrorForm) (v : View) (result : Result Answer E) → IfOk result (λ a. a ≡ error_answer error) → Worked Streams (Refuses error) v v result
+refused-worked Streams error v (Err e) is = not-begun Streams (Refuses error) v e
+refused-worked Streams error v (Ok a) is = record { points = []; chain = refl; done = ([], record { makes = refl; answers = is; reads = tt; streams = tt }); left = tt }
 
-pub told-worked : {E : Type 0} (Streams : Option Refusal → Type 0) (answer : Answer) (v : View) (state : Option State) (result : Result Answer E) → IfOk result (λ a. a ≡ answer) → IfSome state (λ s. Worked Streams (Tells answer) v v result)
-told-worked Streams answer v None result is = tt
-told-worked Streams answer v (Some s) (Err e) is = record { points = []; chain = refl; done = tt }
-told-worked Streams answer v (Some s) (Ok a) is = record { points = []; chain = refl; done = ([], record { makes = refl; answers = is; reads = tt; streams = tt }) }
+pub told-worked : {E : Type 0} (Streams : Option Refusal → Type 0) (answer : Answer) (v : View) (result : Result Answer E) → IfOk result (λ a. a ≡ answer) → Worked Streams (Tells answer) v v result
+told-worked Streams answer v (Err e) is = not-begun Streams (Tells answer) v e
+told-worked Streams answer v (Ok a) is = record { points = []; chain = refl; done = ([], record { makes = refl; answers = is; reads = tt; streams = tt }); left = tt }
 
 -- ---- a manifest that was read
 -- where the reference isn't another digest, the form of the body decides
@@ -71,11 +72,11 @@ refused-form name r media body found a fault found_is same form is = record {
 }
 
 -- the task that is pushed is the manifest's
-pub as-task : {E : Type 0} (Streams : Option Refusal → Type 0) (task task' : Task) (old new : View) (state : Option State) (result : Result Answer E) → task ≡ task' → IfSome state (λ s. Worked Streams task' old new result) → IfSome state (λ s. Worked Streams task old new result)
-as-task Streams task task' old new state result same worked = subst (λ task. IfSome state (λ s. Worked Streams task old new result)) (sym same) worked
+pub as-task : {E : Type 0} (Streams : Option Refusal → Type 0) (task task' : Task) (old new : View) (result : Result Answer E) → task ≡ task' → Worked Streams task' old new result → Worked Streams task old new result
+as-task Streams task task' old new result same worked = subst (λ task. Worked Streams task old new result) (sym same) worked
 
-pub refused-task : (E : Type 0) (Streams : Option Refusal → Type 0) (task : Task) (a : Answer) (v : View) (state : Option State) → IsRefused task a → IfSome state (λ s. Worked {E = E} Streams task v v (Ok a))
-refused-task E Streams task a v state is = as-task Streams task (Refuses is.error) v v state (Ok a) is.task_is (refused-worked Streams is.error v state (Ok a) is.answer_is)
+pub refused-task : (E : Type 0) (Streams : Option Refusal → Type 0) (task : Task) (a : Answer) (v : View) → IsRefused task a → Worked {E = E} Streams task v v (Ok a)
+refused-task E Streams task a v is = as-task Streams task (Refuses is.error) v v (Ok a) is.task_is (refused-worked Streams is.error v (Ok a) is.answer_is)
 
 -- ---- a push that was driven to its end
 stopped-at : {T : Type 0} (p : Phase T) → is_ended p ≡ true → (stop : Stop) × (place_at p ≡ Stopped stop)
@@ -88,25 +89,30 @@ stopped-at (phase.Settle u) is = cc is
 stopped-at (phase.End u s stop) is = cc is
 stopped-at (phase.Drop u s stop) is = cc is
 
-pub push-worked : {T E : Type 0} (Streams : Option Refusal → Type 0) (begun push : PushParts T) (old new : View) (state : Option State) (stop : Stop) (result : Result Answer E) → IfSome state (λ s. Driven Streams old new (Went begun push)) → is_ended push.phase ≡ true → ((points : List Point) → Went begun push points → stop ≡ decided push.parcel points) → IfOk result (λ a. a ≡ push_answer begun.parcel stop) → IfSome state (λ s. Worked Streams (Pushes begun.parcel) old new result)
-push-worked Streams begun push old new None stop result driven ended is answer = tt
-push-worked Streams begun push old new (Some s) stop (Err e) driven ended is answer = record { points = driven.points; chain = driven.chain; done = tt }
-push-worked Streams begun push old new (Some s) stop (Ok a) driven ended is answer =
-    let went = driven.went in
-    let at = stopped-at push.phase ended in
-    record {
-      points = driven.points;
-      chain = driven.chain;
-      done = (
-        [],
-        record {
-          makes = subst (λ b. Calls b driven.points × ((stop : Stop) × (place_of b driven.points ≡ Stopped stop))) went.same (went.calls, (at.0, sym went.at ∙ at.1));
-          answers = answer ∙ ap (λ stop. push_answer begun.parcel stop) (is driven.points went ∙ ap (λ b. decided b driven.points) went.same);
-          reads = tt;
-          streams = driven.streams;
-        },
-      );
-    }
+pub push-worked : {T E : Type 0} (Streams : Option Refusal → Type 0) (begun push : PushParts T) (old new : View) (stop : Stop) (result : Result Answer E) → Driven Streams old new (Went begun push) → is_ended push.phase ≡ true → ((points : List Point) → Went begun push points → stop ≡ decided push.parcel points) → IfOk result (λ a. a ≡ push_answer begun.parcel stop) → Worked Streams (Pushes begun.parcel) old new result
+push-worked {E = E} Streams begun push old new stop result driven ended is answer = record { points = driven.points; chain = driven.chain; done = done result answer; left = left result }
+  where
+    at : (stop : Stop) × (place_at push.phase ≡ Stopped stop)
+    at = stopped-at push.phase ended
+
+    makes : Makes (Pushes begun.parcel) driven.points
+    makes = subst (λ b. Calls b driven.points × ((stop : Stop) × (place_of b driven.points ≡ Stopped stop))) driven.went.same (driven.went.calls, (at.0, sym driven.went.at ∙ at.1))
+
+    done : (result : Result Answer E) → IfOk result (λ a. a ≡ push_answer begun.parcel stop) → IfOk result (λ a. (read : List ℕ) × IsDone Streams old.told_bytes (Pushes begun.parcel) driven.points read a)
+    done (Err e) answer = tt
+    done (Ok a) answer = (
+      [],
+      record {
+        makes = makes;
+        answers = answer ∙ ap (λ stop. push_answer begun.parcel stop) (is driven.points driven.went ∙ ap (λ b. decided b driven.points) driven.went.same);
+        reads = tt;
+        streams = driven.streams;
+      },
+    )
+
+    left : (result : Result Answer E) → IfErr result (λ e. IsLeft Streams (Pushes begun.parcel) driven.points)
+    left (Err e) = inr (makes, driven.streams)
+    left (Ok a) = tt
 
 -- its answer, at the location and with the digest of what was pushed
 pub answer-for : {E : Type 0} (b : Parcel) (stop : Stop) (digest : Digest) (location : List ℕ) (result : Result Answer E) → location ≡ location_of b → b.digest ≡ digest → IfOk result (λ a. (b : Parcel) → location ≡ location_of b → b.digest ≡ digest → a ≡ push_answer b stop) → IfOk result (λ a. a ≡ push_answer b stop)
@@ -119,42 +125,42 @@ ok-both Q (Ok x) p q = (p, q)
 ok-both Q (Err e) p q = tt
 
 -- ---- a get
-pub get-worked : {E : Type 0} (Streams : Option Refusal → Type 0) (begun end : GetParts) (old new : View) (state : Option State) (x : Got) (result : Result Answer E) → IfSome state (λ s. Driven Streams old new (GetWent begun end)) → end.phase ≡ get.Ended x → ((points : List Point) → GetWent begun end points → x ≡ got_by (read_of x) points) → GetFits end.phase new → new.told_bytes ≡ old.told_bytes → IfOk result (λ a. a ≡ got_answer x) → IfSome state (λ s. Worked Streams (Gets begun.sought) old new result)
-get-worked Streams begun end old new None x result driven ended is fits told answer = tt
-get-worked Streams begun end old new (Some s) x (Err e) driven ended is fits told answer = record { points = driven.points; chain = driven.chain; done = tt }
-get-worked Streams begun end old new (Some s) x (Ok a) driven ended is fits told answer =
-    let went = driven.went in
-    let same = is driven.points went in
-    record {
-      points = driven.points;
-      chain = driven.chain;
-      done = (
-        read_of x,
-        record {
-          makes = (x, subst (λ sought. LeadTo sought (get.Ended x) driven.points) went.same (subst (λ p. LeadTo end.sought p driven.points) ended went.lead));
-          answers = answer ∙ ap (λ x. got_answer x) same;
-          reads = subst (λ x. HasDigest old.told_bytes x) same (subst (λ told. HasDigest told x) told (subst (λ p. GetFits p new) ended fits));
-          streams = driven.streams;
-        },
-      );
-    }
+pub get-worked : {E : Type 0} (Streams : Option Refusal → Type 0) (begun end : GetParts) (old new : View) (x : Got) (result : Result Answer E) → Driven Streams old new (GetWent begun end) → end.phase ≡ get.Ended x → ((points : List Point) → GetWent begun end points → x ≡ got_by (read_of x) points) → GetFits end.phase new → new.told_bytes ≡ old.told_bytes → IfOk result (λ a. a ≡ got_answer x) → Worked Streams (Gets begun.sought) old new result
+get-worked {E = E} Streams begun end old new x result driven ended is fits told answer = record { points = driven.points; chain = driven.chain; done = done result answer; left = left result }
+  where
+    same : x ≡ got_by (read_of x) driven.points
+    same = is driven.points driven.went
+
+    makes : Makes (Gets begun.sought) driven.points
+    makes = (x, subst (λ sought. LeadTo sought (get.Ended x) driven.points) driven.went.same (subst (λ p. LeadTo end.sought p driven.points) ended driven.went.lead))
+
+    done : (result : Result Answer E) → IfOk result (λ a. a ≡ got_answer x) → IfOk result (λ a. (read : List ℕ) × IsDone Streams old.told_bytes (Gets begun.sought) driven.points read a)
+    done (Err e) answer = tt
+    done (Ok a) answer = (
+      read_of x,
+      record {
+        makes = makes;
+        answers = answer ∙ ap (λ x. got_answer x) same;
+        reads = subst (λ x. HasDigest old.told_bytes x) same (subst (λ told. HasDigest told x) told (subst (λ p. GetFits p new) ended fits));
+        streams = driven.streams;
+      },
+    )
+
+    left : (result : Result Answer E) → IfErr result (λ e. IsLeft Streams (Gets begun.sought) driven.points)
+    left (Err e) = inr (makes, driven.streams)
+    left (Ok a) = tt
 
 -- ---- a check
-pub check-worked : {E : Type 0} (Streams : Option Refusal → Type 0) (begun end : CheckParts) (old new : View) (state : Option State) (x : Checked) (result : Result Answer E) → IfSome state (λ s. Driven Streams old new (CheckWent begun end)) → end.ended ≡ Some x → ((points : List Point) → CheckWent begun end points → x ≡ checked_by begun.ask points) → IfOk result (λ a. a ≡ checked_answer x) → IfSome state (λ s. Worked Streams (Checks begun.ask) old new result)
-check-worked Streams begun end old new None x result driven ended is answer = tt
-check-worked Streams begun end old new (Some s) x (Err e) driven ended is answer = record { points = driven.points; chain = driven.chain; done = tt }
-check-worked Streams begun end old new (Some s) x (Ok a) driven ended is answer =
-    let went = driven.went in
-    record {
-      points = driven.points;
-      chain = driven.chain;
-      done = (
-        [],
-        record {
-          makes = (x, subst (λ ask. CheckedBy ask (Some x) driven.points) went.same (subst (λ ended. CheckedBy end.ask ended driven.points) ended went.lead));
-          answers = answer ∙ ap (λ x. checked_answer x) (is driven.points went);
-          reads = tt;
-          streams = driven.streams;
-        },
-      );
-    }
+pub check-worked : {E : Type 0} (Streams : Option Refusal → Type 0) (begun end : CheckParts) (old new : View) (x : Checked) (result : Result Answer E) → Driven Streams old new (CheckWent begun end) → end.ended ≡ Some x → ((points : List Point) → CheckWent begun end points → x ≡ checked_by begun.ask points) → IfOk result (λ a. a ≡ checked_answer x) → Worked Streams (Checks begun.ask) old new result
+check-worked {E = E} Streams begun end old new x result driven ended is answer = record { points = driven.points; chain = driven.chain; done = done result answer; left = left result }
+  where
+    makes : Makes (Checks begun.ask) driven.points
+    makes = (x, subst (λ ask. CheckedBy ask (Some x) driven.points) driven.went.same (subst (λ ended. CheckedBy end.ask ended driven.points) ended driven.went.lead))
+
+    done : (result : Result Answer E) → IfOk result (λ a. a ≡ checked_answer x) → IfOk result (λ a. (read : List ℕ) × IsDone Streams old.told_bytes (Checks begun.ask) driven.points read a)
+    done (Err e) answer = tt
+    done (Ok a) answer = ([], record { makes = makes; answers = answer ∙ ap (λ x. checked_answer x) (is driven.points driven.went); reads = tt; streams = driven.streams })
+
+    left : (result : Result Answer E) → IfErr result (λ e. IsLeft Streams (Checks begun.ask) driven.points)
+    left (Err e) = inr (makes, driven.streams)
+    left (Ok a) = tt

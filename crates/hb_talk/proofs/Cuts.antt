@@ -6,7 +6,7 @@ use Rattle.httparse.proofs.GrammarLemmas.{request_unique}
 use Rattle.hb_http.specs.ChunkPlaces.{body_start, chunk_step, place_after}
 use Rattle.hb_http.specs.Framing.{IsChunked, IsFramed}
 use Rattle.hb_http.specs.Headers.{headers_of}
-use Rattle.hb_http.specs.Heads.{HasTooManyHeaders, IsHead, IsHeadTooLong, IsMalformed, NeverHasHead}
+use Rattle.hb_http.specs.Heads.{HasNoHead, HasTooManyHeaders, IsHead, IsHeadTooLong, IsMalformed, NeverHasHead}
 use Rattle.hb_http.specs.Parts.{HoldsNoPart}
 use Rattle.hb_http.specs.Readings.{Given, IsBegun}
 use Rattle.hb_http.specs.declared.TheConstants.{MAX_HEAD}
@@ -48,16 +48,16 @@ headed-open bytes h body is framed may = record { formed = formed; within = with
     within : ¬ (IsOverLimits bytes)
     within over = ⊎_elim (λ (x : HasTooManyHeaders bytes). IsHead-not_many bytes h body is x) (λ (x : IsHeadTooLong bytes). x.1 h body is) over
 
--- no head yet
-headless-open : (bytes : List ℕ) → HoldsNoPart Between bytes → IsOpen bytes
-headless-open bytes none = record { formed = formed; within = within }
-  where
-    formed : ¬ (IsMalformedRest bytes)
-    formed malformed = ⊎_elim
-        (λ (head : IsMalformed bytes). ⊎_elim (λ (x : Unframed bytes). none.0 x.0 x.1 x.2) (λ (x : NeverHasHead bytes). none.2 x) head)
-        (λ (x : Rotten bytes). none.0 x.0 x.1 x.2)
-        malformed
+-- bytes that hold no head, and may still begin with one
+pub headless-formed : (bytes : List ℕ) → HasNoHead bytes → ¬ (NeverHasHead bytes) → ¬ (IsMalformedRest bytes)
+headless-formed bytes none may malformed = ⊎_elim
+    (λ (head : IsMalformed bytes). ⊎_elim (λ (x : Unframed bytes). none x.0 x.1 x.2) (λ (x : NeverHasHead bytes). may x) head)
+    (λ (x : Rotten bytes). none x.0 x.1 x.2)
+    malformed
 
+headless-open : (bytes : List ℕ) → HoldsNoPart Between bytes → IsOpen bytes
+headless-open bytes none = record { formed = headless-formed bytes none.0 none.2; within = within }
+  where
     within : ¬ (IsOverLimits bytes)
     within over = ⊎_elim (λ (x : HasTooManyHeaders bytes). none.3 x) (λ (x : IsHeadTooLong bytes). not-both MAX_HEAD (length bytes) x.0 none.1) over
 

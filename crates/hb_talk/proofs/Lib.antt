@@ -1,5 +1,4 @@
 pub mod Answering
-pub mod Chains
 pub mod Cuts
 pub mod Lessening
 pub mod ReadBodies

@@ -15,7 +15,7 @@ use Rattle.hb_http.proofs.PartRequests.{whole_requests}
 use Rattle.hb_http.proofs.RequestLaws.{RequestsOf-behind}
 use Rattle.hb_talk.specs.Bodies.{AreRequests, Closes, IsLast, IsReadOf, IsReadText, IsTooLong, TellsTooLong}
 use Rattle.hb_talk.specs.Talks.{BeginWith}
-use Rattle.hb_talk.specs.Turns.{IsTurn, Turn, given_by}
+use Rattle.hb_talk.specs.Turns.{ClosesBy, Turn, given_by}
 use Rattle.hb_talk.specs.declared.wanted.TheConstants.{MAX_BODY}
 use Rattle.hb_talk.proofs.ReadBodies.{one-content, overrun-request, request-read, shortest, told-request}
 
@@ -28,9 +28,9 @@ not-so : {P : Type 0} (b : Bool) → b ≡ false → MatchBool b P (¬ P) → ¬
 not-so true is by = cc is
 not-so false is by = by
 
-pub all-open : (turns : List Turn) → AllByRecursion (λ t. t.closes ≡ false) turns → AllByRecursion IsTurn turns → AllByRecursion StaysOpen (given_by turns)
+pub all-open : (turns : List Turn) → AllByRecursion (λ t. t.closes ≡ false) turns → AllByRecursion ClosesBy turns → AllByRecursion StaysOpen (given_by turns)
 all-open [] open_ by = tt
-all-open (t ∷ turns) open_ by = (not-so t.closes open_.0 by.0.closes, all-open turns open_.1 by.1)
+all-open (t ∷ turns) open_ by = (not-so t.closes open_.0 by.0, all-open turns open_.1 by.1)
 
 -- they are read whole
 are-read : (gs : List Given) (rs : List Request) → AreGiven gs rs → AllByRecursion StaysOpen gs → AreRequests gs rs
@@ -111,7 +111,7 @@ are-both (g ∷ gs) hs [] qs one two = absurd one
 are-both (g ∷ gs) hs (r ∷ rs) qs one two = (one.0, are-both gs hs rs qs one.1 two)
 
 module _ (gs : List Given) (g : Given) (bytes : List ℕ) (open_ : AllByRecursion StaysOpen gs) (one : OneMore gs g bytes) where
-  before : Front gs bytes (request_text one.request ++ one.behind)
+  pub before : Front gs bytes (request_text one.request ++ one.behind)
   before = behind-whole gs bytes one.whole (request_text one.request ++ one.behind) open_ one.are_whole one.text
 
   all-given : AreRequests (gs ++ g ∷ []) (before.requests ++ one.request ∷ [])
@@ -127,6 +127,10 @@ module _ (gs : List Given) (g : Given) (bytes : List ℕ) (open_ : AllByRecursio
       joined : flat_map request_text before.requests ++ (request_text one.request ++ one.behind) ≡ flat_map request_text (before.requests ++ one.request ∷ []) ++ one.behind
       joined = sym (append_assoc (flat_map request_text before.requests) (request_text one.request) one.behind)
           ∙ ap (λ b. b ++ one.behind) (ap (λ t. flat_map request_text before.requests ++ t) (sym (append-nil (request_text one.request))) ∙ sym (flat_map-append request_text before.requests (one.request ∷ [])))
+
+  -- it begins what is behind the front
+  pub begins-rest : BeginWith (request_text one.request ++ one.behind) (one.request ∷ []) one.behind
+  begins-rest = record { text = ap (λ b. b ++ one.behind) (sym (append-nil (request_text one.request))); each = (one.is_request, tt) }
 
   -- behind one that closes nothing is read
   pub all-and : IsLast g.head g.content → All (gs ++ g ∷ []) bytes []

@@ -167,3 +167,11 @@ malformed-rest (Chunked place) (Some g) begun waiting is bad = inr (
     fold-append chunk_step body_start is.begun bad.0 ∙ (ap (λ (p : ChunkPlace). place_after p bad.0) is.arrives ∙ bad.3.arrives),
   ),
 )
+
+-- and its headers aren't too many
+pub few-headers : (place : Place) (now : Option Given) (begun waiting : List ℕ) → IsBegun place now begun → IsBad place waiting → ¬ (HasTooManyHeaders (begun ++ waiting))
+few-headers Between None begun waiting is bad = subst (λ (b : List ℕ). ¬ (HasTooManyHeaders (b ++ waiting))) (sym is) bad.1
+few-headers Between (Some g) begun waiting is bad = absurd is
+few-headers (Counted left) now begun waiting is bad = absurd bad
+few-headers (Chunked place) None begun waiting is bad = absurd is
+few-headers (Chunked place) (Some g) begun waiting is bad = IsHead-not_many (begun ++ waiting) g.head (is.begun ++ waiting) (IsHead-append begun waiting g.head is.begun is.is_head)

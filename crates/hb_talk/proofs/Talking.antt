@@ -1,11 +1,11 @@
 -- What a turn makes of a talk.
-use Rattle.std.proofs.Common.{◌≡◌, ◌≢◌, ◌≤◌, ◌+◌, ◌^◌, ℕ, Bool, true, false, List, [], ◌∷◌, ◌++◌, length, Option, Some, None, IfSome, MatchBool, refl, sym, ap, subst, ◌∙◌, inl, inr, arith, append_assoc, append-nil, length-append}
+use Rattle.std.proofs.Common.{◌≡◌, ◌≢◌, ◌≤◌, ◌+◌, ◌^◌, ℕ, Bool, true, false, List, [], ◌∷◌, ◌++◌, length, Option, Some, None, MatchBool, refl, sym, ap, subst, ◌∙◌, inl, inr, arith, append_assoc, append-nil, length-append}
 use Rattle.std.specs.List.{AllByRecursion}
 use Rattle.hb_outside.specs.Streams.{Gives, Writes, WritesPart}
-use Rattle.hb_http.specs.Heads.{HasTooManyHeaders, IsHeadTooLong}
+use Rattle.hb_http.specs.Heads.{HasTooManyHeaders, IsHeadTooLong, NeverHasHead}
 use Rattle.hb_http.specs.Parts.{HoldsNoPart, IsBad}
 use Rattle.hb_http.specs.Readings.{Given, HasRead, IsBegun}
-use Rattle.hb_http.specs.Requests.{HasNoRequest, Request, RequestsOf}
+use Rattle.hb_http.specs.Requests.{HasNoRequest, Request, RequestsOf, request_text}
 use Rattle.hb_http.specs.Standing.{Standing}
 use Rattle.hb_http.specs.declared.places.Place.{Place}
 use Rattle.hb_http.specs.declared.places.Place.TheVariants.{Between, Counted, Chunked}
@@ -14,24 +14,23 @@ use Rattle.hb_http.proofs.RequestLaws.{HasNoHead-no_request}
 use Rattle.hb_desk.specs.Chains.{Chain}
 use Rattle.hb_desk.specs.Clause.{View}
 use Rattle.hb_desk.specs.Points.{Point}
-use Rattle.hb_desk.specs.State.{State}
 use Rattle.hb_desk.specs.declared.refusals.Refusal.{Refusal}
+use Rattle.hb_desk.proofs.Chains.{chain-append, chain-bytes}
 use Rattle.hb_talk.specs.Bodies.{AreRequests, Closes, IsLast, IsReadText, IsTooLong}
 use Rattle.hb_talk.specs.Progress.{Comes, GoesOn, NextTurn, Progress, Reads, RefusesLong, TalkParts, too_long_text}
-use Rattle.hb_talk.specs.Talks.{AtDesk, HasCause, HasRefusal, IsMalformedRest, IsOverLimits, Moment, RefusesRest, Talked, Unanswered, Wrote}
+use Rattle.hb_talk.specs.Talks.{AtDesk, HasCause, HasLeft, HasRefusal, IsMalformedRest, IsOverFirst, Moment, RefusesRest, Talked, Wrote}
 use Rattle.hb_talk.specs.Talks as talks
 use Rattle.hb_talk.specs.Texts.{answer_text}
-use Rattle.hb_talk.specs.Turns.{Answers, IsTurn, Turn, given_by, points_of, turns_text}
+use Rattle.hb_talk.specs.Turns.{Answers, ClosesBy, LeavesUnanswered, Turn, given_by, points_of, turns_text}
 use Rattle.hb_talk.specs.Wanting.{IsBare}
 use Rattle.hb_talk.specs.declared.coming.Coming.{Coming}
 use Rattle.hb_talk.specs.declared.ends.TalkEnd.{TalkEnd}
 use Rattle.hb_talk.specs.declared.ends.TalkEnd.TheVariants as end
 use Rattle.hb_talk.specs.declared.ends.Turned.{Turned}
 use Rattle.hb_talk.specs.declared.ends.Turned.TheVariants.{More, Ended}
-use Rattle.hb_talk.proofs.Chains.{chain-append, chain-bytes, chain-told}
-use Rattle.hb_talk.proofs.Requests.{OneMore, StaysOpen, all-and, all-of, all-open, begun-some, front-and, front-of}
-use Rattle.hb_talk.proofs.Cuts.{rest-open}
-use Rattle.hb_talk.proofs.Rests.{IsShort, malformed-rest, many-none, rest-bad, rest-none}
+use Rattle.hb_talk.proofs.Requests.{OneMore, StaysOpen, all-and, all-of, all-open, before, begins-rest, begun-some, front-and, front-of}
+use Rattle.hb_talk.proofs.Cuts.{headless-formed, rest-open}
+use Rattle.hb_talk.proofs.Rests.{IsShort, few-headers, malformed-rest, many-none, rest-bad, rest-none}
 use Rattle.hb_talk.proofs.Served.{fails-by, refused-turn}
 use Rattle.hb_talk.proofs.Streams.{Gives-append, Gives-none, Writes-append, Writes-none, WritesPart-append}
 
@@ -62,12 +61,8 @@ progress-start Streams now talk fresh coming taken = record {
   each = tt;
   written = Writes-none now.held;
   ended = λ closed. let both : false ≡ true = sym (ap (λ (s : Standing). s.closed) fresh) ∙ closed in cc both;
-  desk = none now.view.state;
+  desk = record { chain = refl; answers = tt };
 }
-  where
-    none : (state : Option State) → IfSome state (λ s. AtDesk Streams now.view now.view [] [])
-    none None = tt
-    none (Some s) = record { chain = refl; answers = tt }
 
 -- the request that comes isn't too long
 pub short-so-far : (coming : Option Coming) (given : Option Given) → Comes coming given → IsShort given
@@ -147,7 +142,7 @@ module _ (Streams : Option Refusal → Type 0) (start now : Moment) (talk : Talk
   few most = subst (λ n. n ≤ 2 ^ 62) so_far.count most
 
   -- no further request stands in the bytes
-  ended-none : (e : TalkEnd) → talk.taken ≤ 2 ^ 62 → HasNoRequest IsReadText rest → ((rs : List Request) → RequestsOf IsReadText Closes bytes rs rest → talks.Reads e bytes rs rest) → (Writes start.held now.held (turns_text so_far.turns) → Wrote e start.held now.held (turns_text so_far.turns)) → HasCause e now.ended bytes so_far.turns rest → Unanswered e [] → HasRefusal e rest None → Talked Streams start now e
+  ended-none : (e : TalkEnd) → talk.taken ≤ 2 ^ 62 → HasNoRequest IsReadText rest → ((rs : List Request) → RequestsOf IsReadText Closes bytes rs rest → talks.Reads e bytes rs rest) → (Writes start.held now.held (turns_text so_far.turns) → Wrote e start.held now.held (turns_text so_far.turns)) → HasCause e now.ended bytes so_far.turns rest → HasLeft Streams e rest [] → HasRefusal e rest None → Talked Streams start now e
   ended-none e most none reads wrote cause left refused =
       let all = all-of (given_by so_far.turns) so_far.given so_far.gone talk.standing.waiting talk.standing.place stay-open so_far.reads none in
       record {
@@ -223,17 +218,21 @@ module _ (Streams : Option Refusal → Type 0) (start now : Moment) (talk : Talk
       nothing (Some g) is = absurd is
 
   -- why a rest is refused
-  pub bad-rest : IsBad talk.standing.place talk.standing.waiting → HasNoRequest IsReadText rest × IsMalformedRest rest
+  pub bad-rest : IsBad talk.standing.place talk.standing.waiting → HasNoRequest IsReadText rest × IsMalformedRest rest × ¬ (HasTooManyHeaders rest)
   bad-rest bad = (
     rest-bad talk.standing.place so_far.given so_far.reads.begun talk.standing.waiting (short-so-far talk.coming so_far.given so_far.comes) so_far.reads.is_begun bad,
     malformed-rest talk.standing.place so_far.given so_far.reads.begun talk.standing.waiting so_far.reads.is_begun bad,
+    few-headers talk.standing.place so_far.given so_far.reads.begun talk.standing.waiting so_far.reads.is_begun bad,
   )
 
-  pub many-rest : talk.standing.place ≡ Between → HasTooManyHeaders talk.standing.waiting → HasNoRequest IsReadText rest × IsOverLimits rest
-  many-rest at many = (subst (HasNoRequest IsReadText) (sym (rest-waits at)) (many-none talk.standing.waiting many), subst IsOverLimits (sym (rest-waits at)) (inl many))
+  pub many-rest : talk.standing.place ≡ Between → HasTooManyHeaders talk.standing.waiting → HasNoRequest IsReadText rest × IsOverFirst rest
+  many-rest at many = (subst (HasNoRequest IsReadText) (sym (rest-waits at)) (many-none talk.standing.waiting many), subst IsOverFirst (sym (rest-waits at)) (inl many))
 
-  pub long-rest : talk.standing.place ≡ Between → IsHeadTooLong talk.standing.waiting → HasNoRequest IsReadText rest × IsOverLimits rest
-  long-rest at long = (subst (HasNoRequest IsReadText) (sym (rest-waits at)) (HasNoHead-no_request IsReadText talk.standing.waiting long.1), subst IsOverLimits (sym (rest-waits at)) (inr long))
+  pub long-rest : talk.standing.place ≡ Between → IsHeadTooLong talk.standing.waiting → ¬ (NeverHasHead talk.standing.waiting) → HasNoRequest IsReadText rest × IsOverFirst rest
+  long-rest at long may = (
+    subst (HasNoRequest IsReadText) (sym (rest-waits at)) (HasNoHead-no_request IsReadText talk.standing.waiting long.1),
+    subst IsOverFirst (sym (rest-waits at)) (inr (long, headless-formed talk.standing.waiting long.1 may)),
+  )
 
   none-left : HoldsNoPart talk.standing.place talk.standing.waiting → HasNoRequest IsReadText rest
   none-left none = rest-none talk.standing.place so_far.given so_far.reads.begun talk.standing.waiting (short-so-far talk.coming so_far.given so_far.comes) so_far.reads.is_begun none
@@ -272,27 +271,16 @@ module _ (Streams : Option Refusal → Type 0) (start now : Moment) (talk : Talk
   read-ends talk' left' ended' end.Memory most none reads = absurd reads
 
   -- ---- memory is wanting
-  -- the points of a request that is left without an answer
-  left-at : (view : View) → IfSome now.view.state (λ s. (points : List Point) × Chain now.view points view) → (points : List Point) × IfSome start.view.state (λ s. AtDesk Streams start.view view so_far.turns points)
-  left-at view made = go start.view.state refl so_far.desk
-    where
-      go : (state : Option State) → start.view.state ≡ state → IfSome state (λ s. AtDesk Streams start.view now.view so_far.turns []) → (points : List Point) × IfSome state (λ s. AtDesk Streams start.view view so_far.turns points)
-      go None is desk = ([], tt)
-      go (Some s) is desk =
-          let told = chain-told start.view now.view (points_of so_far.turns) s is desk.chain in
-          let more = subst (λ state. IfSome state (λ s. (points : List Point) × Chain now.view points view)) told.1 made in
-          (more.0, record { chain = chain-append start.view now.view view (points_of so_far.turns) more.0 desk.chain more.1; answers = desk.answers })
-
-  pub memory-ends : (view : View) (held : Option (List ℕ)) → talk.taken ≤ 2 ^ 62 → IfSome now.view.state (λ s. (points : List Point) × Chain now.view points view) → held ≡ now.held → Talked Streams start (record { view = view; left = now.left; ended = now.ended; held = held }) end.Memory
-  memory-ends view held most made same =
+  -- where nothing was done at the desk
+  pub memory-here : (held : Option (List ℕ)) → talk.taken ≤ 2 ^ 62 → held ≡ now.held → Talked Streams start (record { view = now.view; left = now.left; ended = now.ended; held = held }) end.Memory
+  memory-here held most same =
       let front = front-of (given_by so_far.turns) so_far.given so_far.gone talk.standing.waiting talk.standing.place stay-open so_far.reads in
-      let desk = left-at view made in
       record {
         turns = so_far.turns;
         requests = front.requests;
         taken = bytes;
         rest = rest;
-        points = desk.0;
+        points = [];
         gives = so_far.gives;
         few = few most;
         given = front.given;
@@ -302,17 +290,39 @@ module _ (Streams : Option Refusal → Type 0) (start now : Moment) (talk : Talk
         written = subst (λ held. Writes start.held held (turns_text so_far.turns)) (sym same) so_far.written;
         refused = tt;
         cause = tt;
-        left = tt;
-        desk = desk.1;
+        left = inl refl;
+        desk = so_far.desk;
       }
 
-  -- where nothing was done at the desk
-  pub memory-here : (held : Option (List ℕ)) → talk.taken ≤ 2 ^ 62 → held ≡ now.held → Talked Streams start (record { view = now.view; left = now.left; ended = now.ended; held = held }) end.Memory
-  memory-here held most same = memory-ends now.view held most (go now.view.state) same
-    where
-      go : (state : Option State) → IfSome state (λ s. (points : List Point) × Chain now.view points now.view)
-      go None = tt
-      go (Some s) = ([], refl)
+  -- and of a request that is left without its answer
+  pub memory-ends : (g : Given) (view : View) (held : Option (List ℕ)) → OneMore (given_by so_far.turns) g bytes → talk.taken ≤ 2 ^ 62 → (points : List Point) × Chain now.view points view × LeavesUnanswered Streams g points → held ≡ now.held → Talked Streams start (record { view = view; left = now.left; ended = now.ended; held = held }) end.Memory
+  memory-ends g view held one most made same =
+      let front = before (given_by so_far.turns) g bytes stay-open one in
+      record {
+        turns = so_far.turns;
+        requests = front.requests;
+        taken = bytes;
+        rest = request_text one.request ++ one.behind;
+        points = made.0;
+        gives = so_far.gives;
+        few = few most;
+        given = front.given;
+        reads = front.begin;
+        each = so_far.each;
+        refusal = None;
+        written = subst (λ held. Writes start.held held (turns_text so_far.turns)) (sym same) so_far.written;
+        refused = tt;
+        cause = tt;
+        left = inr (record {
+          given = g;
+          request = one.request;
+          behind = one.behind;
+          begins = begins-rest (given_by so_far.turns) g bytes stay-open one;
+          is = ((one.same, one.read, one.is_request), tt);
+          left = made.2;
+        });
+        desk = record { chain = chain-append start.view now.view view (points_of so_far.turns) made.0 so_far.desk.chain made.1; answers = so_far.desk.answers };
+      }
 
   -- ---- an answer
   module _ (g : Given) (t : Turn) (view : View) (held : Option (List ℕ)) (next : NextTurn Streams now.view view g t) where
@@ -322,18 +332,11 @@ module _ (Streams : Option Refusal → Type 0) (start now : Moment) (talk : Talk
     given-is : given_by so_far.turns ++ g ∷ [] ≡ given_by turns'
     given-is = ap (λ g. given_by so_far.turns ++ g ∷ []) (sym next.given) ∙ sym (given_by-push so_far.turns t)
 
-    desk-next : IfSome start.view.state (λ s. AtDesk Streams start.view view turns' [])
-    desk-next = go start.view.state refl so_far.desk
-      where
-        go : (state : Option State) → start.view.state ≡ state → IfSome state (λ s. AtDesk Streams start.view now.view so_far.turns []) → IfSome state (λ s. AtDesk Streams start.view view turns' [])
-        go None is desk = tt
-        go (Some s) is desk =
-            let told = chain-told start.view now.view (points_of so_far.turns) s is desk.chain in
-            let more = subst (λ state. IfSome state (λ s. Chain now.view t.points view × Answers Streams now.view.told_bytes t)) told.1 next.desk in
-            record {
-              chain = subst (λ points. Chain start.view points view) (sym (points_of-push so_far.turns t)) (chain-append start.view now.view view (points_of so_far.turns) t.points desk.chain more.0);
-              answers = all_push (Answers Streams start.view.told_bytes) so_far.turns t desk.answers (subst (λ told. Answers Streams told t) (chain-bytes start.view now.view (points_of so_far.turns) desk.chain) more.1);
-            }
+    desk-next : AtDesk Streams start.view view turns' []
+    desk-next = record {
+      chain = subst (λ points. Chain start.view points view) (sym (points_of-push so_far.turns t)) (chain-append start.view now.view view (points_of so_far.turns) t.points so_far.desk.chain next.chain);
+      answers = all_push (Answers Streams start.view.told_bytes) so_far.turns t so_far.desk.answers (subst (λ told. Answers Streams told t) (chain-bytes start.view now.view (points_of so_far.turns) so_far.desk.chain) next.answers);
+    }
 
     written-next : Writes now.held held (answer_text t.closes t.answer) → Writes start.held held (turns_text turns')
     written-next writes = subst (Writes start.held held) (sym (turns_text-push so_far.turns t)) (Writes-append start.held now.held held (turns_text so_far.turns) (answer_text t.closes t.answer) so_far.written writes)
@@ -348,14 +351,14 @@ module _ (Streams : Option Refusal → Type 0) (start now : Moment) (talk : Talk
       reads = subst (λ gs. HasRead gs None (so_far.gone ++ gone) s'.place) given-is reads;
       comes = tt;
       open_ = all_push (λ t. t.closes ≡ false) so_far.turns t so_far.open_ open_;
-      each = all_push IsTurn so_far.turns t so_far.each next.is;
+      each = all_push ClosesBy so_far.turns t so_far.each next.closes;
       written = written-next writes;
       ended = λ is. so_far.ended (sym closed ∙ is);
       desk = desk-next;
     }
 
     last-is : t.closes ≡ true → IsLast g.head g.content
-    last-is is = subst (λ g. IsLast g.head g.content) next.given (go t.closes is next.is.closes)
+    last-is is = subst (λ g. IsLast g.head g.content) next.given (go t.closes is next.closes)
       where
         go : (closes : Bool) → closes ≡ true → MatchBool closes (IsLast t.given.head t.given.content) (¬ (IsLast t.given.head t.given.content)) → IsLast t.given.head t.given.content
         go true is by = by
@@ -374,7 +377,7 @@ module _ (Streams : Option Refusal → Type 0) (start now : Moment) (talk : Talk
           few = few most;
           given = subst (λ gs. AreRequests gs all.requests) given-is all.given;
           reads = all.reads;
-          each = all_push IsTurn so_far.turns t so_far.each next.is;
+          each = all_push ClosesBy so_far.turns t so_far.each next.closes;
           refusal = None;
           written = written-next writes;
           refused = tt;
@@ -396,7 +399,7 @@ module _ (Streams : Option Refusal → Type 0) (start now : Moment) (talk : Talk
           few = few most;
           given = subst (λ gs. AreRequests gs front.requests) given-is front.given;
           reads = front.begin;
-          each = all_push IsTurn so_far.turns t so_far.each next.is;
+          each = all_push ClosesBy so_far.turns t so_far.each next.closes;
           refusal = None;
           refused = tt;
           written = subst (WritesPart start.held held) (sym (turns_text-push so_far.turns t)) (WritesPart-append start.held now.held held (turns_text so_far.turns) (answer_text t.closes t.answer) so_far.written part);

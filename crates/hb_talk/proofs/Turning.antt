@@ -164,7 +164,7 @@ module _ (Streams : Option Refusal → Type 0) (start now : Moment) (talk : Talk
       go More a = subst (Progress Streams start (record { view = view; left = now.left; ended = now.ended; held = held })) (sym is) (answered-on Streams start now talk so_far g a.0 view held a.1 reads.gone s' reads.text read' a.2 a.3 (gives-closed (Ok BodyEnd) talk.standing s' gives))
       go (Ended end.Closed) a = answered-last Streams start now talk so_far g a.0 view held a.1 one most a.2 a.3
       go (Ended end.WriteFault) a = answered-part Streams start now talk so_far g a.0 view held a.1 one most a.2
-      go (Ended end.Memory) a = memory-ends Streams start now talk so_far view held most a.0 a.1
+      go (Ended end.Memory) a = memory-ends Streams start now talk so_far g view held one most a.0 a.1
       go (Ended end.Cut) a = absurd a
       go (Ended end.Bad) a = absurd a
       go (Ended end.Long) a = absurd a
@@ -196,6 +196,6 @@ module _ (Streams : Option Refusal → Type 0) (start now : Moment) (talk : Talk
   pub fault-turn : (f : HttpFault) (s' : Standing) (held : Option (List ℕ)) (e : TalkEnd) → Gives talk.standing (Err f) s' → EndsFault f now.held held e → Talked Streams start (holding held) e
   fault-turn fault.Cut s' held e gives ends = subst (λ held. Talked Streams start (holding held) e) (sym ends.1) (subst (Talked Streams start now) (sym ends.0) (cut-ends Streams start now talk so_far most gives.0 gives.1 gives.2))
   fault-turn fault.Memory s' held e gives ends = subst (Talked Streams start (holding held)) (sym ends.0) (memory-here Streams start now talk so_far held most ends.1)
-  fault-turn fault.Bad s' held e gives ends = let why = bad-rest Streams start now talk so_far gives.0 in refused-by (fault_text fault.Bad) held e why.0 (inl (why.1, refl)) ends
+  fault-turn fault.Bad s' held e gives ends = let why = bad-rest Streams start now talk so_far gives.0 in refused-by (fault_text fault.Bad) held e why.0 (inl (why.1, why.2, refl)) ends
   fault-turn fault.TooManyHeaders s' held e gives ends = let why = many-rest Streams start now talk so_far gives.0 gives.1 in refused-by (fault_text fault.TooManyHeaders) held e why.0 (inr (why.1, refl)) ends
-  fault-turn fault.HeadTooLong s' held e gives ends = let why = long-rest Streams start now talk so_far gives.0 gives.1 in refused-by (fault_text fault.HeadTooLong) held e why.0 (inr (why.1, refl)) ends
+  fault-turn fault.HeadTooLong s' held e gives ends = let why = long-rest Streams start now talk so_far gives.0 gives.1 gives.2 in refused-by (fault_text fault.HeadTooLong) held e why.0 (inr (why.1, refl)) ends

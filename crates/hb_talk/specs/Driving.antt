@@ -1,6 +1,5 @@
--- What came of an operation at a desk: the points of its events, and its answer.
-use Rattle.std.specs.Prelude.{◌≡◌, ℕ, List, length, Option, Some, Result, IfOk}
-use Rattle.std.specs.List.{AllByRecursion}
+-- What came of a task at a desk: the points of its events, and its answer.
+use Rattle.std.specs.Prelude.{◌≡◌, ℕ, List, length, Option, Some, Result, IfErr, IfOk}
 use Rattle.hb_http.specs.AnswerHeads.{HasPhrase}
 use Rattle.hb_text.specs.Digests.{digest_of}
 use Rattle.hb_records.specs.declared.puts.PutAsk.{PutAsk}
@@ -13,20 +12,14 @@ use Rattle.hb_upload.specs.Places.{Parcel}
 use Rattle.hb_ops.specs.Errors.{ErrorForm, error_answer}
 use Rattle.hb_talk.specs.Tasks.{Task}
 use Rattle.hb_talk.specs.Tasks.Task.{Refuses}
-use Rattle.hb_talk.specs.Turns.{IsDone}
+use Rattle.hb_talk.specs.Turns.{IsDone, IsLeft}
 
--- its events so far
-pub record Driven (Streams : Option Refusal → Type 0) (start now : View) (Went : List Point → Type 0) : Type 0 where
-  pub points : List Point
-  pub chain : Chain start points now
-  pub streams : AllByRecursion (λ p. Streams p.fault) points
-  pub went : Went points
-
--- A task was done at the desk; where memory was wanting, it has no answer.
+-- A task was done at the desk; or, where memory was wanting, it has no answer.
 pub record Worked {E : Type 0} (Streams : Option Refusal → Type 0) (task : Task) (start now : View) (result : Result Answer E) : Type 0 where
   pub points : List Point
   pub chain : Chain start points now
   pub done : IfOk result (λ a. (read : List ℕ) × IsDone Streams start.told_bytes task points read a)
+  pub left : IfErr result (λ e. IsLeft Streams task points)
 
 -- ---- a manifest that was read
 -- it is put with the digest and the length of its bytes

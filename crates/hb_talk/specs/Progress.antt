@@ -1,5 +1,5 @@
 -- A talk under way: what it has done so far, and what each of its steps makes of that.
-use Rattle.std.specs.Prelude.{◌≡◌, ◌<◌, ◌+◌, ◌-◌, ◌*◌, ◌^◌, ◌⊎◌, ◌↔◌, ℕ, Bool, true, false, List, [], ◌++◌, length, Option, Some, None, Result, IfOk, IfSome, IsTrue, codes, nat_le}
+use Rattle.std.specs.Prelude.{◌≡◌, ◌<◌, ◌+◌, ◌-◌, ◌*◌, ◌^◌, ◌⊎◌, ◌↔◌, ℕ, Bool, true, false, List, [], ◌++◌, length, Option, Some, None, Result, IfErr, IfOk, IsTrue, codes, nat_le}
 use Rattle.std.specs.List.{AllByRecursion}
 use Rattle.hb_outside.specs.Streams.{Gives, Writes, WritesPart}
 use Rattle.httparse.specs.Grammar.{RequestHead}
@@ -22,7 +22,7 @@ use Rattle.hb_talk.specs.Comings.{ComesOf, tells_too_long}
 use Rattle.hb_talk.specs.Talks.{AtDesk, Moment, Talked, bad_head, long_head}
 use Rattle.hb_talk.specs.Tasks.{too_long}
 use Rattle.hb_talk.specs.Texts.{answer_text, as_asked}
-use Rattle.hb_talk.specs.Turns.{Answers, AnswersTo, IsTurn, Turn, given_by, turns_text}
+use Rattle.hb_talk.specs.Turns.{Answers, AnswersTo, ClosesBy, LeavesUnanswered, Turn, given_by, turns_text}
 use Rattle.hb_talk.specs.declared.coming.Coming.{Coming}
 use Rattle.hb_talk.specs.declared.ends.TalkEnd.{TalkEnd}
 use Rattle.hb_talk.specs.declared.ends.TalkEnd.TheVariants.{Closed, Cut, Bad, Long, ReadFault, WriteFault, Memory}
@@ -54,10 +54,10 @@ pub record Progress (Streams : Option Refusal → Type 0) (start now : Moment) (
   pub reads : HasRead (given_by turns) given gone talk.standing.place
   pub comes : Comes talk.coming given
   pub open_ : AllByRecursion (λ t. t.closes ≡ false) turns
-  pub each : AllByRecursion IsTurn turns
+  pub each : AllByRecursion ClosesBy turns
   pub written : Writes start.held now.held (turns_text turns)
   pub ended : talk.standing.closed ≡ true → now.ended ≡ true
-  pub desk : IfSome start.view.state (λ s. AtDesk Streams start.view now.view turns [])
+  pub desk : AtDesk Streams start.view now.view turns []
 
 -- what a turn makes of a talk
 abbrev pub GoesOn : (Option Refusal → Type 0) → Moment → Moment → TalkParts → Turned → Type 0
@@ -143,19 +143,21 @@ pub record Served {E : Type 0} (Streams : Option Refusal → Type 0) (start now 
   pub points : List Point
   pub chain : Chain start points now
   pub answers : IfOk result (λ a. (read : List ℕ) × AnswersTo Streams start.told_bytes g points read a)
+  pub left : IfErr result (λ e. LeavesUnanswered Streams g points)
 
 -- one turn more
 pub record NextTurn (Streams : Option Refusal → Type 0) (start now : View) (g : Given) (t : Turn) : Type 0 where
   pub given : t.given ≡ g
-  pub is : IsTurn t
-  pub desk : IfSome start.state (λ s. Chain start t.points now × Answers Streams start.told_bytes t)
+  pub closes : ClosesBy t
+  pub chain : Chain start t.points now
+  pub answers : Answers Streams start.told_bytes t
 
 -- what answering a request makes of desk and sink
 abbrev pub Answered : (Option Refusal → Type 0) → View → View → Option (List ℕ) → Option (List ℕ) → Given → Turned → Type 0
 Answered Streams start now held held' g More = (t : Turn) × NextTurn Streams start now g t × (t.closes ≡ false) × Writes held held' (answer_text t.closes t.answer)
 Answered Streams start now held held' g (Ended Closed) = (t : Turn) × NextTurn Streams start now g t × (t.closes ≡ true) × Writes held held' (answer_text t.closes t.answer)
 Answered Streams start now held held' g (Ended WriteFault) = (t : Turn) × NextTurn Streams start now g t × WritesPart held held' (answer_text t.closes t.answer)
-Answered Streams start now held held' g (Ended Memory) = IfSome start.state (λ s. (points : List Point) × Chain start points now) × (held' ≡ held)
+Answered Streams start now held held' g (Ended Memory) = ((points : List Point) × Chain start points now × LeavesUnanswered Streams g points) × (held' ≡ held)
 Answered Streams start now held held' g (Ended end) = ⊥
 
 -- ---- its end

@@ -1,5 +1,5 @@
 -- A talk over one connection: what was read, what was done at the desk, and what was written.
-use Rattle.std.specs.Prelude.{◌≡◌, ◌≢◌, ◌≤◌, ◌^◌, ◌⊎◌, ℕ, Bool, true, List, [], ◌∷◌, ◌++◌, length, Option, Some, None, IfSome, codes}
+use Rattle.std.specs.Prelude.{◌≡◌, ◌≢◌, ◌≤◌, ◌^◌, ◌⊎◌, ℕ, Bool, true, List, [], ◌∷◌, ◌++◌, length, Option, Some, None, codes}
 use Rattle.std.specs.List.{AllByRecursion, flat_map}
 use Rattle.hb_outside.specs.Streams.{Gives, Writes, WritesPart}
 use Rattle.httparse.specs.Grammar.{RequestHead}
@@ -7,6 +7,7 @@ use Rattle.hb_http.specs.ChunkPlaces.{body_start, place_after}
 use Rattle.hb_http.specs.Framing.{IsChunked}
 use Rattle.hb_http.specs.Headers.{headers_of}
 use Rattle.hb_http.specs.Heads.{HasTooManyHeaders, IsHead, IsHeadTooLong, IsMalformed}
+use Rattle.hb_http.specs.Readings.{Given}
 use Rattle.hb_http.specs.Requests.{IsRequest, Request, RequestsOf, request_text}
 use Rattle.hb_http.specs.declared.chunk_places.ChunkPlace.TheVariants.{Bad as BadBody}
 use Rattle.hb_desk.specs.Chains.{Chain}
@@ -16,7 +17,7 @@ use Rattle.hb_desk.specs.declared.refusals.Refusal.{Refusal}
 use Rattle.hb_ops.specs.Errors.{ErrorForm, error_answer, plain}
 use Rattle.hb_talk.specs.Bodies.{AreRequests, Closes, IsReadText}
 use Rattle.hb_talk.specs.Texts.{answer_text}
-use Rattle.hb_talk.specs.Turns.{Answers, IsTurn, Turn, given_by, points_of, turns_text}
+use Rattle.hb_talk.specs.Turns.{Answers, ClosesBy, LeavesUnanswered, Turn, given_by, points_of, turns_text}
 use Rattle.hb_talk.specs.declared.ends.TalkEnd.{TalkEnd}
 use Rattle.hb_talk.specs.declared.ends.TalkEnd.TheVariants.{Closed, Cut, Bad, Long, WriteFault, Memory}
 
@@ -76,10 +77,15 @@ bad_head = plain 400 (codes "HEAD_INVALID")
 abbrev pub long_head : ErrorForm
 long_head = plain 431 (codes "HEAD_INVALID")
 
+-- so many headers count before what is malformed, and so long a head behind it
+abbrev pub IsOverFirst : List ℕ → Type 0
+IsOverFirst bytes = HasTooManyHeaders bytes ⊎ (IsHeadTooLong bytes × ¬ (IsMalformedRest bytes))
+
 -- what is answered to such a rest, behind which the connection closes
 abbrev pub RefusesRest : List ℕ → List ℕ → Type 0
 RefusesRest rest text =
-    (IsMalformedRest rest × (text ≡ answer_text true (error_answer bad_head))) ⊎ (IsOverLimits rest × (text ≡ answer_text true (error_answer long_head)))
+    (IsMalformedRest rest × ¬ (HasTooManyHeaders rest) × (text ≡ answer_text true (error_answer bad_head)))
+    ⊎ (IsOverFirst rest × (text ≡ answer_text true (error_answer long_head)))
 
 -- behind the answers only such a refusal is written, and it ends the talk
 abbrev pub HasRefusal : TalkEnd → List ℕ → Option (List ℕ) → Type 0
@@ -101,10 +107,19 @@ HasCause Cut ended taken turns rest = (rest ≢ []) × (ended ≡ true) × IsOpe
 HasCause Long ended taken turns rest = length taken ≡ 2 ^ 62
 HasCause end ended taken turns rest = Unit {0}
 
--- the points of a request that is left without an answer, which comes only where memory was wanting
-abbrev pub Unanswered : TalkEnd → List Point → Type 0
-Unanswered Memory points = Unit {0}
-Unanswered end points = points ≡ []
+-- the request that begins the rest is left without an answer
+pub record LeavesFirst (Streams : Option Refusal → Type 0) (rest : List ℕ) (points : List Point) : Type 0 where
+  pub given : Given
+  pub request : Request
+  pub behind : List ℕ
+  pub begins : BeginWith rest (request ∷ []) behind
+  pub is : AreRequests (given ∷ []) (request ∷ [])
+  pub left : LeavesUnanswered Streams given points
+
+-- the points behind those of the turns: only where memory was wanting there are any
+abbrev pub HasLeft : (Option Refusal → Type 0) → TalkEnd → List ℕ → List Point → Type 0
+HasLeft Streams Memory rest points = (points ≡ []) ⊎ LeavesFirst Streams rest points
+HasLeft Streams end rest points = points ≡ []
 
 -- Its turns at the desk, one behind another: each answer is that of its request by its points.
 pub record AtDesk (Streams : Option Refusal → Type 0) (start now : View) (turns : List Turn) (points : List Point) : Type 0 where
@@ -123,10 +138,10 @@ pub record Talked (Streams : Option Refusal → Type 0) (start now : Moment) (en
   pub few : length taken ≤ 2 ^ 62
   pub given : AreRequests (given_by turns) requests
   pub reads : Reads end taken requests rest
-  pub each : AllByRecursion IsTurn turns
+  pub each : AllByRecursion ClosesBy turns
   pub refusal : Option (List ℕ)
   pub written : Wrote end start.held now.held (with_refusal (turns_text turns) refusal)
   pub refused : HasRefusal end rest refusal
   pub cause : HasCause end now.ended taken turns rest
-  pub left : Unanswered end points
-  pub desk : IfSome start.view.state (λ s. AtDesk Streams start.view now.view turns points)
+  pub left : HasLeft Streams end rest points
+  pub desk : AtDesk Streams start.view now.view turns points

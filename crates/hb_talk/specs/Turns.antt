@@ -1,5 +1,5 @@
 -- The turns of a connection: each request with its answer, and with the events that decided it.
-use Rattle.std.specs.Prelude.{◌≡◌, ◌⊎◌, ℕ, Bool, true, false, List, [], ◌∷◌, ◌++◌, map, Option, MatchBool}
+use Rattle.std.specs.Prelude.{◌≡◌, ◌⊎◌, ℕ, Bool, List, [], ◌∷◌, ◌++◌, map, Option, MatchBool}
 use Rattle.std.specs.List.{AllByRecursion, flat_map}
 use Rattle.httparse.specs.Grammar.{RequestHead}
 use Rattle.hb_http.specs.Readings.{Given}
@@ -8,7 +8,7 @@ use Rattle.hb_desk.specs.declared.answers.Answer.{Answer}
 use Rattle.hb_desk.specs.declared.refusals.Refusal.{Refusal}
 use Rattle.hb_talk.specs.Bodies.{IsLast, IsTooLong}
 use Rattle.hb_talk.specs.Tasks.{Makes, ReadsTrue, Task, answer_of, task_of, too_long}
-use Rattle.hb_talk.specs.Tasks.Task.{Refuses, Tells}
+use Rattle.hb_talk.specs.Tasks.Task.{Refuses}
 use Rattle.hb_talk.specs.Texts.{answer_text, as_asked}
 use Rattle.hb_talk.specs.Wanting.{Asks, IsBare, media_of}
 use Rattle.hb_talk.specs.declared.wanted.Wanted.{Wanted}
@@ -47,28 +47,17 @@ AnswersTo Streams told g points read answer = (task : Task) × (full : Answer) �
 abbrev pub Answers : (Option Refusal → Type 0) → Bool → Turn → Type 0
 Answers Streams told t = AnswersTo Streams told t.given t.points t.read t.answer
 
--- a task that needs no event
-abbrev pub is_at_once : Task → Bool
-is_at_once (Refuses error) = true
-is_at_once (Tells answer) = true
-is_at_once task = false
+-- A task without an answer: nothing was done for it, or all of it.
+abbrev pub IsLeft : (Option Refusal → Type 0) → Task → List Point → Type 0
+IsLeft Streams task points = (points ≡ []) ⊎ (Makes task points × AllByRecursion (λ p. Streams p.fault) points)
 
--- its answer, where it needs none
-abbrev pub AtOnce : Task → Answer → Type 0
-AtOnce task answer = is_at_once task ≡ true → answer ≡ answer_of task [] []
-
--- The answer is to a task of the request, and is decided where that needs no event. It is so over every desk.
-abbrev pub AnswersAtOnce : Given → Answer → Type 0
-AnswersAtOnce g answer = (task : Task) × (full : Answer) × IsTaskOf g task × AtOnce task full × IsToldAs g.head full answer
+-- the request is left without an answer
+abbrev pub LeavesUnanswered : (Option Refusal → Type 0) → Given → List Point → Type 0
+LeavesUnanswered Streams g points = (task : Task) × IsTaskOf g task × IsLeft Streams task points
 
 -- it closed exactly where its request is the last
 abbrev pub ClosesBy : Turn → Type 0
 ClosesBy t = MatchBool t.closes (IsLast t.given.head t.given.content) (¬ (IsLast t.given.head t.given.content))
-
--- what holds of each turn, over every desk
-pub record IsTurn (t : Turn) : Type 0 where
-  pub closes : ClosesBy t
-  pub at_once : AnswersAtOnce t.given t.answer
 
 -- what was given of the requests
 abbrev pub given_by : List Turn → List Given

@@ -1,10 +1,10 @@
 //! What is done over a desk for a request.
-ghost use Rattle.std.specs.Prelude.{◌≡◌, ℕ, List, [], length, true, false, None, IfErr, IfOk, IfSome};
+ghost use Rattle.std.specs.Prelude.{◌≡◌, ℕ, List, [], length, true, false, None, IfErr, IfOk};
 ghost use Rattle.std.specs.Option.{option_copied};
 ghost use Rattle.hb_text.specs.Digests.{digest_of};
 ghost use Rattle.hb_http.specs.AnswerHeads.{HasPhrase};
 ghost use Rattle.hb_desk.specs.Clause.{View};
-ghost use Rattle.hb_desk.specs.Points.{IsStreamFault, Moves, Point};
+ghost use Rattle.hb_desk.specs.Points.{IsStreamFault, Moves};
 ghost use Rattle.hb_upload.specs.Deciding.{decided};
 ghost use Rattle.hb_upload.specs.Phases.{PhaseFits, is_ended};
 ghost use Rattle.hb_upload.specs.Places.{Parcel};
@@ -12,16 +12,15 @@ ghost use Rattle.hb_upload.specs.Pushes.{Went};
 ghost use Rattle.hb_upload.specs.declared.phase.Stop.{Stop as Stopping};
 ghost use Rattle.hb_ops.specs.Checks.{Went as CheckWent};
 ghost use Rattle.hb_ops.specs.Gets.{PhaseFits as GetFits, Went as GetWent, is_ended as is_got};
-ghost use Rattle.hb_talk.specs.Driving.{Driven, IsPut, IsRefused, Worked, parcel_of};
+ghost use Rattle.hb_talk.specs.Driving.{IsPut, IsRefused, Worked, parcel_of};
 ghost use Rattle.hb_talk.specs.Tasks.{location_of, push_answer as answer_by, names_other, put_of, task_of};
-ghost use Rattle.hb_talk.specs.Turns.{AtOnce};
 ghost use Rattle.hb_talk.specs.Tasks.Task.{Checks, Gets, Pushes};
 
 use crate::answers::{
     bad_manifest, base, checked, created, got, location, no_route, unsupported, wrong_digest,
 };
 use crate::wanted::Wanted;
-use hb_desk::{Answer, Desk, Op, Progress};
+use hb_desk::{Answer, Desk, drive};
 use hb_manifest::{Manifest, read_manifest};
 use hb_ops::{Check, Get, refused};
 use hb_outside::Clock;
@@ -29,24 +28,6 @@ use hb_records::PutAsk;
 use hb_text::{Digest, Memory, Name, Reference, Tag, Text};
 use hb_upload::{Push, Stop};
 use std::alloc::Global;
-
-// Makes the events of an operation that wants no body, to its end.
-fn drive<D: Desk, C: Clock, O: Op<D>>(desk: &mut D, clock: &mut C, op: &mut O)
-    requires ready { O.done op.old ≡ false }
-    requires fed { (x : O) → O.wants x ≡ false }
-    requires fits { O.fits op.old (D.view desk.old) }
-    ensures done { O.done op.new ≡ true }
-    ensures fits { O.fits op.new (D.view desk.new) }
-    ensures moves { Moves (D.view desk.old) (D.view desk.new) }
-    ensures driven { (begun : O) → O.since begun op.old [] → IfSome (D.view desk.old).state (λ s. Driven (IsStreamFault D.Stage D.Reader D.Stage.faults D.Reader.faults) (D.view desk.old) (D.view desk.new) (O.since begun op.new)) }
-{
-    loop {
-        match op.step(desk, clock.now()) {
-            Progress::Done => return,
-            Progress::More => {}
-        }
-    }
-}
 
 // What a push of this digest that ended so is answered: where it was pushed, the content stands at the location.
 fn push_answer(alloc: Global, stop: Stop, digest: Digest, location: Text) -> Result<Answer, Memory>
@@ -73,7 +54,7 @@ fn push<D: Desk, C: Clock>(
     requires fits { PhaseFits D.Stage.upload D.Stage.size D.Stage.bytes push.parcel.digest push.parcel.bytes push.phase (D.view desk.old) }
     requires location { location ≡ location_of push.parcel }
     requires digest { push.parcel.digest ≡ digest }
-    ensures worked { IfSome (D.view desk.old).state (λ s. Worked (IsStreamFault D.Stage D.Reader D.Stage.faults D.Reader.faults) (Pushes push.parcel) (D.view desk.old) (D.view desk.new) result) }
+    ensures worked { Worked (IsStreamFault D.Stage D.Reader D.Stage.faults D.Reader.faults) (Pushes push.parcel) (D.view desk.old) (D.view desk.new) result }
     ensures moves { Moves (D.view desk.old) (D.view desk.new) }
     ensures phrase { IfOk result (λ a. HasPhrase a.status) }
 {
@@ -93,7 +74,7 @@ fn push_blob<D: Desk, C: Clock>(
     digest: Digest,
     body: Text,
 ) -> Result<Answer, Memory>
-    ensures worked { IfSome (D.view desk.old).state (λ s. Worked (IsStreamFault D.Stage D.Reader D.Stage.faults D.Reader.faults) (Pushes (record { name = name; digest = digest; bytes = body; put = None })) (D.view desk.old) (D.view desk.new) result) }
+    ensures worked { Worked (IsStreamFault D.Stage D.Reader D.Stage.faults D.Reader.faults) (Pushes (record { name = name; digest = digest; bytes = body; put = None })) (D.view desk.old) (D.view desk.new) result }
     ensures moves { Moves (D.view desk.old) (D.view desk.new) }
     ensures phrase { IfOk result (λ a. HasPhrase a.status) }
 {
@@ -112,7 +93,7 @@ fn get<D: Desk, C: Clock>(
     requires ready { is_got get.phase ≡ false }
     requires went { GetWent get get [] }
     requires fits { (v : View) → GetFits get.phase v }
-    ensures worked { IfSome (D.view desk.old).state (λ s. Worked (IsStreamFault D.Stage D.Reader D.Stage.faults D.Reader.faults) (Gets get.sought) (D.view desk.old) (D.view desk.new) result) }
+    ensures worked { Worked (IsStreamFault D.Stage D.Reader D.Stage.faults D.Reader.faults) (Gets get.sought) (D.view desk.old) (D.view desk.new) result }
     ensures moves { Moves (D.view desk.old) (D.view desk.new) }
     ensures phrase { IfOk result (λ a. HasPhrase a.status) }
 {
@@ -133,7 +114,7 @@ fn check<D: Desk, C: Clock>(
 ) -> Result<Answer, Memory>
     requires ready { check.ended ≡ None }
     requires went { CheckWent check check [] }
-    ensures worked { IfSome (D.view desk.old).state (λ s. Worked (IsStreamFault D.Stage D.Reader D.Stage.faults D.Reader.faults) (Checks check.ask) (D.view desk.old) (D.view desk.new) result) }
+    ensures worked { Worked (IsStreamFault D.Stage D.Reader D.Stage.faults D.Reader.faults) (Checks check.ask) (D.view desk.old) (D.view desk.new) result }
     ensures moves { Moves (D.view desk.old) (D.view desk.new) }
     ensures phrase { IfOk result (λ a. HasPhrase a.status) }
 {
@@ -204,8 +185,7 @@ fn put_manifest<D: Desk, C: Clock>(
     media: Option<&[u8]>,
     body: Text,
 ) -> Result<Answer, Memory>
-    ensures worked { IfSome (D.view desk.old).state (λ s. Worked (IsStreamFault D.Stage D.Reader D.Stage.faults D.Reader.faults) (task_of (Wanted.PutManifest name reference) (option_copied media.entry) body) (D.view desk.old) (D.view desk.new) result) }
-    ensures at_once { IfOk result (AtOnce (task_of (Wanted.PutManifest name reference) (option_copied media.entry) body)) }
+    ensures worked { Worked (IsStreamFault D.Stage D.Reader D.Stage.faults D.Reader.faults) (task_of (Wanted.PutManifest name reference) (option_copied media.entry) body) (D.view desk.old) (D.view desk.new) result }
     ensures moves { Moves (D.view desk.old) (D.view desk.new) }
     ensures phrase { IfOk result (λ a. HasPhrase a.status) }
 {
@@ -230,8 +210,7 @@ pub(crate) fn serve<D: Desk, C: Clock>(
     media: &Option<Text>,
     body: Text,
 ) -> Result<Answer, Memory>
-    ensures worked { IfSome (D.view desk.old).state (λ s. Worked (IsStreamFault D.Stage D.Reader D.Stage.faults D.Reader.faults) (task_of wanted media.now body) (D.view desk.old) (D.view desk.new) result) }
-    ensures at_once { IfOk result (AtOnce (task_of wanted media.now body)) }
+    ensures worked { Worked (IsStreamFault D.Stage D.Reader D.Stage.faults D.Reader.faults) (task_of wanted media.now body) (D.view desk.old) (D.view desk.new) result }
     ensures moves { Moves (D.view desk.old) (D.view desk.new) }
     ensures phrase { IfOk result (λ a. HasPhrase a.status) }
 {

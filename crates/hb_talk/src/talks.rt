@@ -1,5 +1,5 @@
 //! A talk over one connection.
-ghost use Rattle.std.specs.Prelude.{◌≡◌, ◌<◌, ◌≤◌, ◌^◌, [], length, true, codes, None, Some, IfErr, IfOk, IfSome, OnErr, OnOk};
+ghost use Rattle.std.specs.Prelude.{◌≡◌, ◌<◌, ◌≤◌, ◌^◌, [], length, true, codes, None, Some, IfErr, IfOk, OnErr, OnOk};
 ghost use Rattle.hb_outside.specs.Causes.{HasCause, Rose};
 ghost use Rattle.hb_http.specs.AnswerHeads.{HasPhrase};
 ghost use Rattle.hb_http.specs.Readings.{Given};
@@ -11,7 +11,6 @@ ghost use Rattle.hb_ops.specs.Errors.{error_answer, plain};
 ghost use Rattle.hb_talk.specs.Texts.{answer_text};
 ghost use Rattle.hb_talk.specs.Progress.{Answered, Begins, Came, Comes, EndsBy, EndsFault, Fails, Gathers, GoesOn, Progress, Reads, Served, too_long_text, work_left};
 ghost use Rattle.hb_talk.specs.Talks.{Moment, Talked, now_of};
-ghost use Rattle.hb_talk.specs.Turns.{AnswersAtOnce};
 
 use crate::answers::{bad_head, too_long};
 use crate::coming::{Coming, is_bare};
@@ -130,8 +129,7 @@ fn answer_of<D: Desk, C: Clock>(
     clock: &mut C,
     coming: Coming,
 ) -> Result<Answer, Memory>
-    ensures served { (g : Given) → Comes (Some coming) (Some g) → IfSome (D.view desk.old).state (λ s. Served (IsStreamFault D.Stage D.Reader D.Stage.faults D.Reader.faults) (D.view desk.old) (D.view desk.new) g result) }
-    ensures at_once { (g : Given) → Comes (Some coming) (Some g) → IfOk result (AnswersAtOnce g) }
+    ensures served { (g : Given) → Comes (Some coming) (Some g) → Served (IsStreamFault D.Stage D.Reader D.Stage.faults D.Reader.faults) (D.view desk.old) (D.view desk.new) g result }
     ensures moves { Moves (D.view desk.old) (D.view desk.new) }
     ensures phrase { IfOk result (λ a. HasPhrase a.status) }
 {

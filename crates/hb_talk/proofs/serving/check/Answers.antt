@@ -5,5 +5,5 @@ use Rattle.hb_talk.proofs.serving.check.Goals as goal
 pub returns-clause-worked : goal.returns-clause-worked
 returns-clause-worked g c =
     let is = c.in-Some.ensures in
-    check-worked _ c.args.check c.drive.new.op (g.D.Desk.view c.args.desk.now) (g.D.Desk.view c.drive.new.desk) (g.D.Desk.view c.args.desk.now).state c.in-Some.end c.checked.result
+    check-worked _ c.args.check c.drive.new.op (g.D.Desk.view c.args.desk.now) (g.D.Desk.view c.drive.new.desk) c.in-Some.end c.checked.result
     (c.drive.ensures.driven c.args.check c.requires.went) (sym is.is) (λ points went. is.decided c.args.check points went) c.checked.ensures
