@@ -106,7 +106,7 @@ fn converse<K: Keeper, S: Store, C: Clock, I: Source, O: Sink>(
 /// | 4 | only where the sink's count of faults rose |
 /// | 5 | only where the keeper's count of faults rose, at the start |
 /// | 7 | want of memory, freely |
-/// | 8 | only where the rows don't fit, and nothing else but 5 and 7 comes then |
+/// | 8 | only where the rows don't fit, where they are told; and nothing else but 5 and 7 comes then |
 /// | 10 | as many bytes were read as a connection may send, 2^62 |
 /// | 11 | the input ended inside a request, or is malformed or above the limits of a head |
 pub fn run<K: Keeper, S: Store, C: Clock, I: Source, O: Sink>(

@@ -18,7 +18,7 @@ use Rattle.hb_desk.specs.declared.refusals.Refusal.{Refusal}
 use Rattle.hb_desk.proofs.Chains.{chain-append, chain-bytes}
 use Rattle.hb_talk.specs.Bodies.{AreRequests, Closes, IsLast, IsReadText, IsTooLong}
 use Rattle.hb_talk.specs.Progress.{Comes, GoesOn, NextTurn, Progress, Reads, RefusesLong, TalkParts, too_long_text}
-use Rattle.hb_talk.specs.Talks.{AtDesk, HasCause, HasLeft, HasRefusal, IsMalformedRest, IsOverFirst, Moment, RefusesRest, Talked, Wrote}
+use Rattle.hb_talk.specs.Talks.{AtDesk, GoOn, HasCause, HasLeft, HasRefusal, IsMalformedRest, IsOpen, IsOverFirst, Moment, RefusesRest, Talked, Wrote}
 use Rattle.hb_talk.specs.Talks as talks
 use Rattle.hb_talk.specs.Texts.{answer_text}
 use Rattle.hb_talk.specs.Turns.{Answers, ClosesBy, LeavesUnanswered, Turn, given_by, points_of, turns_text}
@@ -46,6 +46,20 @@ turns_text-push (u ∷ turns) t = ap (λ text. answer_text u.closes u.answer ++ 
 points_of-push : (turns : List Turn) (t : Turn) → points_of (turns ++ t ∷ []) ≡ t.points ++ points_of turns
 points_of-push [] t = sym (append-nil t.points)
 points_of-push (u ∷ turns) t = ap (λ points. points ++ u.points) (points_of-push turns t) ∙ append_assoc t.points (points_of turns) u.points
+
+-- ---- turns that leave the connection open
+abbrev AreOpen : List Turn → Type 0
+AreOpen = AllByRecursion (λ t. t.closes ≡ false)
+
+open-on : (turns : List Turn) → AreOpen turns → GoOn turns
+open-on [] open_ = tt
+open-on (t ∷ []) open_ = tt
+open-on (t ∷ next ∷ turns) open_ = (open_.0, open-on (next ∷ turns) open_.1)
+
+open-then : (turns : List Turn) (t : Turn) → AreOpen turns → GoOn (turns ++ t ∷ [])
+open-then [] t open_ = tt
+open-then (u ∷ []) t open_ = (open_.0, tt)
+open-then (u ∷ next ∷ turns) t open_ = (open_.0, open-then (next ∷ turns) t open_.1)
 
 -- ---- at the start
 pub progress-start : (Streams : Option Refusal → Type 0) (now : Moment) (talk : TalkParts) → talk.standing ≡ record { place = Between; body = []; waiting = []; closed = false } → talk.coming ≡ None → talk.taken ≡ 0 → Progress Streams now now talk
@@ -156,6 +170,7 @@ module _ (Streams : Option Refusal → Type 0) (start now : Moment) (talk : Talk
         given = all.given;
         reads = reads all.requests all.reads;
         each = so_far.each;
+        goes_on = open-on so_far.turns so_far.open_;
         refusal = None;
         written = wrote so_far.written;
         refused = refused;
@@ -179,6 +194,7 @@ module _ (Streams : Option Refusal → Type 0) (start now : Moment) (talk : Talk
         given = all.given;
         reads = all.reads;
         each = so_far.each;
+        goes_on = open-on so_far.turns so_far.open_;
         refusal = Some text;
         written = Writes-append start.held now.held held (turns_text so_far.turns) text so_far.written writes;
         refused = refuses;
@@ -187,8 +203,8 @@ module _ (Streams : Option Refusal → Type 0) (start now : Moment) (talk : Talk
         desk = so_far.desk;
       }
 
-  pub refused-part : (held : Option (List ℕ)) (text : List ℕ) → talk.taken ≤ 2 ^ 62 → RefusesRest rest text → WritesPart now.held held text → Talked Streams start (record { view = now.view; left = now.left; ended = now.ended; held = held }) end.WriteFault
-  refused-part held text most refuses part =
+  pub refused-part : (held : Option (List ℕ)) (text : List ℕ) → talk.taken ≤ 2 ^ 62 → HasNoRequest IsReadText rest → RefusesRest rest text → WritesPart now.held held text → Talked Streams start (record { view = now.view; left = now.left; ended = now.ended; held = held }) end.WriteFault
+  refused-part held text most none refuses part =
       let front = front-of (given_by so_far.turns) so_far.given so_far.gone talk.standing.waiting talk.standing.place stay-open so_far.reads in
       record {
         turns = so_far.turns;
@@ -201,9 +217,10 @@ module _ (Streams : Option Refusal → Type 0) (start now : Moment) (talk : Talk
         given = front.given;
         reads = front.begin;
         each = so_far.each;
+        goes_on = open-on so_far.turns so_far.open_;
         refusal = Some text;
         written = WritesPart-append start.held now.held held (turns_text so_far.turns) text so_far.written part;
-        refused = refuses;
+        refused = (none, refuses);
         cause = tt;
         left = refl;
         desk = so_far.desk;
@@ -237,11 +254,14 @@ module _ (Streams : Option Refusal → Type 0) (start now : Moment) (talk : Talk
   none-left : HoldsNoPart talk.standing.place talk.standing.waiting → HasNoRequest IsReadText rest
   none-left none = rest-none talk.standing.place so_far.given so_far.reads.begun talk.standing.waiting (short-so-far talk.coming so_far.given so_far.comes) so_far.reads.is_begun none
 
+  open-left : HoldsNoPart talk.standing.place talk.standing.waiting → IsOpen rest
+  open-left none = rest-open talk.standing.place so_far.given so_far.reads.begun talk.standing.waiting so_far.reads.is_begun none
+
   pub input-ends : talk.taken ≤ 2 ^ 62 → talk.standing.closed ≡ true → HoldsNoPart talk.standing.place talk.standing.waiting → talk.standing.place ≡ Between → talk.standing.waiting ≡ [] → Talked Streams start now end.Closed
   input-ends most closed none at empty = ended-none end.Closed most (none-left none) (λ rs h. h) (λ h. h) (rest-waits at ∙ empty, inl (so_far.ended closed)) refl tt
 
   pub cut-ends : talk.taken ≤ 2 ^ 62 → talk.standing.closed ≡ true → (talk.standing.place ≡ Between → talk.standing.waiting ≢ []) → HoldsNoPart talk.standing.place talk.standing.waiting → Talked Streams start now end.Cut
-  cut-ends most closed some none = ended-none end.Cut most (none-left none) (λ rs h. h) (λ h. h) (left, so_far.ended closed, rest-open talk.standing.place so_far.given so_far.reads.begun talk.standing.waiting so_far.reads.is_begun none) refl tt
+  cut-ends most closed some none = ended-none end.Cut most (none-left none) (λ rs h. h) (λ h. h) (left, so_far.ended closed, open-left none) refl tt
     where
       front-nil : (a b : List ℕ) → a ++ b ≡ [] → a ≡ []
       front-nil [] b is = refl
@@ -262,8 +282,8 @@ module _ (Streams : Option Refusal → Type 0) (start now : Moment) (talk : Talk
   still left' ended' e left ended talked = subst (λ left. Talked Streams start (record { view = now.view; left = left; ended = ended'; held = now.held }) e) (sym left) (subst (λ ended. Talked Streams start (record { view = now.view; left = now.left; ended = ended; held = now.held }) e) (sym ended) talked)
 
   pub read-ends : (talk' : TalkParts) (left' : Option (List ℕ)) (ended' : Bool) (e : TalkEnd) → talk.taken ≤ 2 ^ 62 → HoldsNoPart talk.standing.place talk.standing.waiting → Reads talk talk' now.left left' now.ended ended' (Ended e) → Talked Streams start (record { view = now.view; left = left'; ended = ended'; held = now.held }) e
-  read-ends talk' left' ended' end.Long most none reads = still left' ended' end.Long reads.0 reads.1 (ended-none end.Long most (none-left none) (λ rs h. h) (λ h. h) (sym so_far.count ∙ reads.2) refl tt)
-  read-ends talk' left' ended' end.ReadFault most none reads = still left' ended' end.ReadFault reads.0 reads.1 (ended-none end.ReadFault most (none-left none) (λ rs h. h) (λ h. h) tt refl tt)
+  read-ends talk' left' ended' end.Long most none reads = still left' ended' end.Long reads.0 reads.1 (ended-none end.Long most (none-left none) (λ rs h. h) (λ h. h) (sym so_far.count ∙ reads.2, open-left none) refl tt)
+  read-ends talk' left' ended' end.ReadFault most none reads = still left' ended' end.ReadFault reads.0 reads.1 (ended-none end.ReadFault most (none-left none) (λ rs h. h) (λ h. h) (open-left none) refl tt)
   read-ends talk' left' ended' end.Closed most none reads = absurd reads
   read-ends talk' left' ended' end.Cut most none reads = absurd reads
   read-ends talk' left' ended' end.Bad most none reads = absurd reads
@@ -286,10 +306,11 @@ module _ (Streams : Option Refusal → Type 0) (start now : Moment) (talk : Talk
         given = front.given;
         reads = front.begin;
         each = so_far.each;
+        goes_on = open-on so_far.turns so_far.open_;
         refusal = None;
         written = subst (λ held. Writes start.held held (turns_text so_far.turns)) (sym same) so_far.written;
         refused = tt;
-        cause = tt;
+        cause = so_far.open_;
         left = inl refl;
         desk = so_far.desk;
       }
@@ -309,10 +330,11 @@ module _ (Streams : Option Refusal → Type 0) (start now : Moment) (talk : Talk
         given = front.given;
         reads = front.begin;
         each = so_far.each;
+        goes_on = open-on so_far.turns so_far.open_;
         refusal = None;
         written = subst (λ held. Writes start.held held (turns_text so_far.turns)) (sym same) so_far.written;
         refused = tt;
-        cause = tt;
+        cause = so_far.open_;
         left = inr (record {
           given = g;
           request = one.request;
@@ -378,6 +400,7 @@ module _ (Streams : Option Refusal → Type 0) (start now : Moment) (talk : Talk
           given = subst (λ gs. AreRequests gs all.requests) given-is all.given;
           reads = all.reads;
           each = all_push ClosesBy so_far.turns t so_far.each next.closes;
+          goes_on = open-then so_far.turns t so_far.open_;
           refusal = None;
           written = written-next writes;
           refused = tt;
@@ -400,6 +423,7 @@ module _ (Streams : Option Refusal → Type 0) (start now : Moment) (talk : Talk
           given = subst (λ gs. AreRequests gs front.requests) given-is front.given;
           reads = front.begin;
           each = all_push ClosesBy so_far.turns t so_far.each next.closes;
+          goes_on = open-then so_far.turns t so_far.open_;
           refusal = None;
           refused = tt;
           written = subst (WritesPart start.held held) (sym (turns_text-push so_far.turns t)) (WritesPart-append start.held now.held held (turns_text so_far.turns) (answer_text t.closes t.answer) so_far.written part);

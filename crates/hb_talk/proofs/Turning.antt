@@ -191,7 +191,7 @@ module _ (Streams : Option Refusal → Type 0) (start now : Moment) (talk : Talk
   refused-by : (text : List ℕ) (held : Option (List ℕ)) (e : TalkEnd) → HasNoRequest IsReadText (rest Streams start now talk so_far) → RefusesRest (rest Streams start now talk so_far) text → EndsBy end.Bad text now.held held e → Talked Streams start (holding held) e
   refused-by text held e none refuses (inl told) = subst (Talked Streams start (holding held)) (sym told.0) (refused-ends Streams start now talk so_far held text most none refuses told.1)
   refused-by text held e none refuses (inr fails) =
-      fails-by (Talked Streams start (holding held)) text now.held held e fails (λ part. refused-part Streams start now talk so_far held text most refuses part) (λ same. memory-here Streams start now talk so_far held most same)
+      fails-by (Talked Streams start (holding held)) text now.held held e fails (λ part. refused-part Streams start now talk so_far held text most none refuses part) (λ same. memory-here Streams start now talk so_far held most same)
 
   pub fault-turn : (f : HttpFault) (s' : Standing) (held : Option (List ℕ)) (e : TalkEnd) → Gives talk.standing (Err f) s' → EndsFault f now.held held e → Talked Streams start (holding held) e
   fault-turn fault.Cut s' held e gives ends = subst (λ held. Talked Streams start (holding held) e) (sym ends.1) (subst (Talked Streams start now) (sym ends.0) (cut-ends Streams start now talk so_far most gives.0 gives.1 gives.2))

@@ -1,5 +1,5 @@
 -- A talk over one connection: what was read, what was done at the desk, and what was written.
-use Rattle.std.specs.Prelude.{◌≡◌, ◌≢◌, ◌≤◌, ◌^◌, ◌⊎◌, ℕ, Bool, true, List, [], ◌∷◌, ◌++◌, length, Option, Some, None, codes}
+use Rattle.std.specs.Prelude.{◌≡◌, ◌≢◌, ◌≤◌, ◌^◌, ◌⊎◌, ℕ, Bool, true, false, List, [], ◌∷◌, ◌++◌, length, Option, Some, None, codes}
 use Rattle.std.specs.List.{AllByRecursion, flat_map}
 use Rattle.hb_outside.specs.Streams.{Gives, Writes, WritesPart}
 use Rattle.httparse.specs.Grammar.{RequestHead}
@@ -8,7 +8,7 @@ use Rattle.hb_http.specs.Framing.{IsChunked}
 use Rattle.hb_http.specs.Headers.{headers_of}
 use Rattle.hb_http.specs.Heads.{HasTooManyHeaders, IsHead, IsHeadTooLong, IsMalformed}
 use Rattle.hb_http.specs.Readings.{Given}
-use Rattle.hb_http.specs.Requests.{IsRequest, Request, RequestsOf, request_text}
+use Rattle.hb_http.specs.Requests.{HasNoRequest, IsRequest, Request, RequestsOf, request_text}
 use Rattle.hb_http.specs.declared.chunk_places.ChunkPlace.TheVariants.{Bad as BadBody}
 use Rattle.hb_desk.specs.Chains.{Chain}
 use Rattle.hb_desk.specs.Clause.{View}
@@ -19,7 +19,7 @@ use Rattle.hb_talk.specs.Bodies.{AreRequests, Closes, IsReadText}
 use Rattle.hb_talk.specs.Texts.{answer_text}
 use Rattle.hb_talk.specs.Turns.{Answers, ClosesBy, LeavesUnanswered, Turn, given_by, points_of, turns_text}
 use Rattle.hb_talk.specs.declared.ends.TalkEnd.{TalkEnd}
-use Rattle.hb_talk.specs.declared.ends.TalkEnd.TheVariants.{Closed, Cut, Bad, Long, WriteFault, Memory}
+use Rattle.hb_talk.specs.declared.ends.TalkEnd.TheVariants.{Closed, Cut, Bad, Long, ReadFault, WriteFault, Memory}
 
 -- what the desk and the devices tell at a moment: the desk's view, what the source has left and whether it has ended, and
 -- what the sink holds
@@ -44,10 +44,16 @@ Reads WriteFault taken requests rest = BeginWith taken requests rest
 Reads Memory taken requests rest = BeginWith taken requests rest
 Reads end taken requests rest = RequestsOf IsReadText Closes taken requests rest
 
--- where the sink failed, a part of the last answer may be missing
+-- where the sink failed, a front part of the answers was written
 abbrev pub Wrote : TalkEnd → Option (List ℕ) → Option (List ℕ) → List ℕ → Type 0
 Wrote WriteFault held now text = WritesPart held now text
 Wrote end held now text = Writes held now text
+
+-- no turn stands behind one that closed
+abbrev pub GoOn : List Turn → Type 0
+GoOn [] = Unit {0}
+GoOn (t ∷ []) = Unit {0}
+GoOn (t ∷ next ∷ turns) = (t.closes ≡ false) × GoOn (next ∷ turns)
 
 -- the last of the turns closed
 abbrev pub LastCloses : List Turn → Type 0
@@ -57,7 +63,7 @@ LastCloses turns = (before : List Turn) × (last : Turn) × (turns ≡ before ++
 abbrev pub IsBadBody : List ℕ → Type 0
 IsBadBody body = (front rest : List ℕ) × (body ≡ front ++ rest) × (place_after body_start front ≡ BadBody)
 
--- the bytes begin with no request, whatever follows: their head is malformed, or their body in chunks
+-- said of bytes that begin with no whole request: their head is malformed, or their body in chunks
 abbrev pub IsMalformedRest : List ℕ → Type 0
 IsMalformedRest bytes = IsMalformed bytes ⊎ ((h : RequestHead) × (body : List ℕ) × IsHead bytes h body × IsChunked (headers_of h) × IsBadBody body)
 
@@ -90,7 +96,7 @@ RefusesRest rest text =
 -- behind the answers only such a refusal is written, and it ends the talk
 abbrev pub HasRefusal : TalkEnd → List ℕ → Option (List ℕ) → Type 0
 HasRefusal Bad rest (Some text) = RefusesRest rest text
-HasRefusal WriteFault rest (Some text) = RefusesRest rest text
+HasRefusal WriteFault rest (Some text) = HasNoRequest IsReadText rest × RefusesRest rest text
 HasRefusal Bad rest None = ⊥
 HasRefusal end rest None = Unit {0}
 HasRefusal end rest (Some text) = ⊥
@@ -104,7 +110,9 @@ with_refusal answers (Some text) = answers ++ text
 abbrev pub HasCause : TalkEnd → Bool → List ℕ → List Turn → List ℕ → Type 0
 HasCause Closed ended taken turns rest = (rest ≡ []) × ((ended ≡ true) ⊎ LastCloses turns)
 HasCause Cut ended taken turns rest = (rest ≢ []) × (ended ≡ true) × IsOpen rest
-HasCause Long ended taken turns rest = length taken ≡ 2 ^ 62
+HasCause Long ended taken turns rest = (length taken ≡ 2 ^ 62) × IsOpen rest
+HasCause ReadFault ended taken turns rest = IsOpen rest
+HasCause Memory ended taken turns rest = AllByRecursion (λ t. t.closes ≡ false) turns
 HasCause end ended taken turns rest = Unit {0}
 
 -- the request that begins the rest is left without an answer
@@ -139,6 +147,7 @@ pub record Talked (Streams : Option Refusal → Type 0) (start now : Moment) (en
   pub given : AreRequests (given_by turns) requests
   pub reads : Reads end taken requests rest
   pub each : AllByRecursion ClosesBy turns
+  pub goes_on : GoOn turns
   pub refusal : Option (List ℕ)
   pub written : Wrote end start.held now.held (with_refusal (turns_text turns) refusal)
   pub refused : HasRefusal end rest refusal
