@@ -3,16 +3,13 @@ use Rattle.std.proofs.Common.{◌≡◌, ◌≤◌, ◌<◌, ℕ, Bool, true, fa
 use Rattle.std.specs.List.{AllByRecursion, filter, flat_map}
 use Rattle.std.specs.Ordering.{is_eq}
 use Rattle.std.proofs.lemmas.Cmp.{tied_itself}
-use Rattle.std.specs.declared.cmp.Ordering.{Ordering}
-use Rattle.std.specs.declared.cmp.Ordering.TheVariants.{Less, Equal, Greater}
-use Rattle.hb_base.specs.Tables.{with_row, changed_at, placed}
 use Rattle.hb_base.proofs.TableLaws.{equal_from}
 use Rattle.hb_text.specs.declared.digests.Digest.{Digest}
 use Rattle.hb_text.specs.Names.{project_of}
 use Rattle.hb_text.specs.Orders.{digest_cmp}
 use Rattle.hb_text.proofs.KeyOrders.{text_cmp-order, digest_cmp-order}
 use Rattle.hb_records.specs.Entries.{AuditEntry}
-use Rattle.hb_records.specs.Orders.{NamedDigest, named_digest_cmp}
+use Rattle.hb_records.specs.Orders.{named_digest_cmp}
 use Rattle.hb_records.proofs.KeyOrders.{named_digest_cmp-order}
 use Rattle.hb_records.specs.declared.entries.EntryKind.{EntryKind}
 use Rattle.hb_records.specs.declared.entries.EntryKind.TheVariants.{Associated, Touched, ArtifactPut}
@@ -36,6 +33,7 @@ use Rattle.hb_model.specs.Whole.{IsWhole, IsKept, MayLapse, HaveLengths, is_last
 use Rattle.hb_model.proofs.EntrySteps.{All-weaker, present-older, size-older, last_kind-older}
 use Rattle.hb_model.proofs.WholeSteps.{may_lapse-step, sighted-step, sealed-step}
 use Rattle.hb_history.specs.Naming.{Names, FewerPlacements}
+use Rattle.hb_history.proofs.AllRows.{all-passing, all-with, all-changed}
 use Rattle.hb_history.proofs.FoundRows.{all_found}
 use Rattle.hb_history.proofs.PairSteps.{pair-step, pair_after, kept_or, pair_item, same_pair, stored-step, stored_after, stored_item}
 use Rattle.hb_history.proofs.PairTables.{pairs-rise}
@@ -146,12 +144,7 @@ pair-stays p q (ArtifactPut name digest size media refs children tag) d s x is t
 pair-stays p q _ d s x is there = absurd is
 
 pub all-filter : {A : Type 0} (P : A → Type 0) (test : A → Bool) (xs : List A) → AllByRecursion P xs → AllByRecursion P (filter test xs)
-all-filter P test [] h = tt
-all-filter P test (x ∷ xs) h = either (test x) (all-filter P test xs h.1)
-  where
-    either : (b : Bool) → AllByRecursion P (filter test xs) → AllByRecursion P (cond b (x ∷ filter test xs) (filter test xs))
-    either true rest = (h.0, rest)
-    either false rest = rest
+all-filter P test xs h = all-passing P test xs (All-weaker P (λ x. IsTrue (test x) → P x) (λ x p _. p) xs h)
 
 -- ---- what artifacts need
 abbrev pub needs : ArtifactItem → List Digest
@@ -194,27 +187,9 @@ module _ (P : Digest → Type 0) (p : List ℕ) where
       either true of rest = all-joined (needs x) (needed_by p items) (h.0 of) rest
       either false other rest = rest
 
--- a row that is set, and rows that are changed
-all-with : (Q : ArtifactItem → Type 0) (new : ArtifactItem) (items : List ArtifactItem) → Q new → AllByRecursion Q items → AllByRecursion Q (with_row named_digest_cmp artifact_key new items)
-all-with Q new [] q h = (q, tt)
-all-with Q new (x ∷ items) q h = either (named_digest_cmp (artifact_key new) (artifact_key x)) (all-with Q new items q h.1)
-  where
-    either : (r : Ordering) → AllByRecursion Q (with_row named_digest_cmp artifact_key new items) → AllByRecursion Q (placed r new x items (with_row named_digest_cmp artifact_key new items))
-    either Less later = (q, (h.0, h.1))
-    either Equal later = (q, h.1)
-    either Greater later = (h.0, later)
-
-all-changed : (Q : ArtifactItem → Type 0) (k : NamedDigest) (change : ArtifactItem → ArtifactItem) → ((x : ArtifactItem) → Q x → Q (change x)) → (items : List ArtifactItem) → AllByRecursion Q items → AllByRecursion Q (changed_at named_digest_cmp artifact_key k change items)
-all-changed Q k change f [] h = tt
-all-changed Q k change f (x ∷ items) h = (either (is_eq (named_digest_cmp k (artifact_key x))), all-changed Q k change f items h.1)
-  where
-    either : (b : Bool) → Q (cond b (change x) x)
-    either true = f x h.0
-    either false = h.0
-
 fed-put : (P : Digest → Type 0) (p : List ℕ) (moment : ℕ) (name : List ℕ) (digest : Digest) (size : ℕ) (media : List ℕ) (refs children : List Digest) (x : Option ArtifactItem) (items : List ArtifactItem) → (IsTrue (same_text p (project_of name)) → AllByRecursion P (digest ∷ refs)) → AllByRecursion (IsFed P p) items → AllByRecursion (IsFed P p) (artifacts_with moment name digest size media refs children x items)
-fed-put P p moment name digest size media refs children None items own h = all-with (IsFed P p) _ items own h
-fed-put P p moment name digest size media refs children (Some x) items own h = all-changed (IsFed P p) (name, digest) _ (λ x fed. fed) items h
+fed-put P p moment name digest size media refs children None items own h = all-with named_digest_cmp artifact_key (IsFed P p) _ items own h
+fed-put P p moment name digest size media refs children (Some x) items own h = all-changed named_digest_cmp artifact_key (IsFed P p) (name, digest) _ (λ x fed. fed) items h
 
 exact-text : (a b : List ℕ) → same_text a b ≡ true → a ≡ b
 exact-text a b e = text_cmp-order.ties a b (equal_from _ e)

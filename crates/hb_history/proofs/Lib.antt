@@ -1,8 +1,10 @@
 pub mod Additions
+mod AllRows
 pub mod ArtifactSizes
 mod FoundRows
 pub mod IdleRows
 pub mod KeptWhole
+pub mod NamedArtifacts
 pub mod NamedGrace
 mod PairSteps
 mod PairTables

@@ -1,3 +1,4 @@
+pub mod Artifacts
 pub mod Naming
 pub mod PresentRows
 pub mod Versions

@@ -6,8 +6,10 @@
 //! - [`versions`]: a row that has the version that it had is the row as it was.
 //! - [`grace`]: what is named stays for the window.
 //! - [`soundness`]: what every event keeps makes the promise about stored bytes.
+//! - [`artifacts`]: what an index lists is there, and what a tag names.
 #![tactic(auto)]
 
+pub mod artifacts;
 pub mod grace;
 pub mod presence;
 pub mod soundness;

@@ -1,5 +1,6 @@
 //! Calls of the laws.
 
+use crate::artifacts::{children_of_indexes_are_there, tags_name_artifacts};
 use crate::grace::what_is_named_has_its_grace;
 use crate::presence::{
     a_touch_meets_an_idle_row, the_row_tells_what_is_present, what_a_project_has_is_idle,
@@ -28,5 +29,7 @@ fn laws(_rt: HostRuntime) -> Result<(), Fail> {
     sizes_of_artifacts_are_those_stored();
     whole_registries_are_sound();
     content_that_is_held_may_be_named();
+    children_of_indexes_are_there();
+    tags_name_artifacts();
     Ok(())
 }
