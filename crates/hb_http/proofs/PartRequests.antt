@@ -51,7 +51,7 @@ whole_request g text is = record {
 }
 
 -- and all of them
-pub whole_requests : (gs : List Given) (bytes : List ℕ) → AreWhole gs bytes → (rs : List Request) × AreRequests gs rs × (bytes ≡ flat_map request_text rs)
+pub whole_requests : (gs : List Given) (bytes : List ℕ) → AreWhole gs bytes → (rs : List Request) × AreRequests IsBodyOf gs rs × (bytes ≡ flat_map request_text rs)
 whole_requests [] bytes all = ([], tt, all)
 whole_requests (g ∷ gs) bytes all =
     let rest = whole_requests gs all.1 all.4 in
@@ -62,7 +62,7 @@ whole_requests (g ∷ gs) bytes all =
     )
 
 -- they are requests
-each_request : (gs : List Given) (rs : List Request) (Closes : RequestHead → List ℕ → Type 0) → AreRequests gs rs → AllByRecursion (λ r. ¬ (Closes r.head r.body)) rs
+each_request : (gs : List Given) (rs : List Request) (Closes : RequestHead → List ℕ → Type 0) → AreRequests IsBodyOf gs rs → AllByRecursion (λ r. ¬ (Closes r.head r.body)) rs
     → AllByRecursion (λ r. IsRequest IsBodyText r × ¬ (Closes r.head r.body)) rs
 each_request [] [] Closes are open_ = tt
 each_request [] (r ∷ rs) Closes are open_ = absurd are
@@ -71,7 +71,7 @@ each_request (g ∷ gs) (r ∷ rs) Closes are open_ = ((are.0.2, open_.0), each_
 
 -- between two requests, those that were given stand before the requests of the bytes behind
 pub requests_before : (Closes : RequestHead → List ℕ → Type 0) (done : List Given) (taken : List ℕ) → HasRead done None taken Between
-    → (rs : List Request) × AreRequests done rs × (taken ≡ flat_map request_text rs)
+    → (rs : List Request) × AreRequests IsBodyOf done rs × (taken ≡ flat_map request_text rs)
     × (AllByRecursion (λ r. ¬ (Closes r.head r.body)) rs → (more : List ℕ) (others : List Request) (rest : List ℕ)
     → RequestsOf IsBodyText Closes more others rest → RequestsOf IsBodyText Closes (taken ++ more) (rs ++ others) rest)
 requests_before Closes done taken read =

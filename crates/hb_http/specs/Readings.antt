@@ -91,9 +91,10 @@ pub record ReadsOn (done : List Given) (now : Option Given) (taken : List ℕ) (
   pub follows : Follows result s'.body done now done' now'
   pub reads : HasRead done' now' (taken ++ gone) s'.place
 
--- one by one, these are requests of the bytes, each with the head and the data that were given
-abbrev pub AreRequests : List Given → List Request → Type 0
-AreRequests [] [] = Unit {0}
-AreRequests [] (r ∷ rs) = ⊥
-AreRequests (g ∷ gs) [] = ⊥
-AreRequests (g ∷ gs) (r ∷ rs) = ((r.head ≡ g.head) × IsBodyOf g.head r.body g.content × IsRequest IsBodyText r) × AreRequests gs rs
+-- One by one, these are requests of the bytes, each with the head and the data that were given. IsBody says which bytes
+-- behind a head are its body, and what their data is.
+abbrev pub AreRequests : (IsBody : RequestHead → List ℕ → List ℕ → Type 0) → List Given → List Request → Type 0
+AreRequests IsBody [] [] = Unit {0}
+AreRequests IsBody [] (r ∷ rs) = ⊥
+AreRequests IsBody (g ∷ gs) [] = ⊥
+AreRequests IsBody (g ∷ gs) (r ∷ rs) = ((r.head ≡ g.head) × IsBody g.head r.body g.content × IsRequest (λ h body. (content : List ℕ) × IsBody h body content) r) × AreRequests IsBody gs rs

@@ -9,7 +9,7 @@ ghost use Rattle.hb_http.specs.Framing.{HasLength, IsChunked};
 ghost use Rattle.hb_http.specs.Heads.{IsHead, HasNoHead, IsMalformed, NeverHasHead, HasTooManyHeaders, IsHeadTooLong, window};
 ghost use Rattle.hb_http.specs.declared.TheConstants.{MAX_HEAD};
 ghost use Rattle.hb_http.specs.Parts.{Gives, HoldsNoPart, IsBad};
-ghost use Rattle.hb_http.specs.Readings.{AreRequests, Given, HasRead, IsBodyText, all_given};
+ghost use Rattle.hb_http.specs.Readings.{AreRequests, Given, HasRead, IsBodyOf, IsBodyText, all_given};
 ghost use Rattle.hb_http.specs.Requests.{Request, HasNoRequest, RequestsOf, request_text};
 ghost use Rattle.hb_http.specs.Standing.{Standing};
 ghost use Rattle.hb_http.specs.declared.parts.HttpFault.{HttpFault};
@@ -100,7 +100,7 @@ pub fn one_reading_of_parts()
 /// requests of whatever bytes follow.
 pub fn parts_are_requests<R: Reading>()
     ensures { (done : List Given) (taken : List ℕ) → HasRead done None taken Place.Between
-        → (requests : List Request) × AreRequests done requests × (taken ≡ flat_map request_text requests)
+        → (requests : List Request) × AreRequests IsBodyOf done requests × (taken ≡ flat_map request_text requests)
         × (AllByRecursion (λ r. ¬ (R.closes r.head r.body)) requests
         → (more : List ℕ) (others : List Request) (rest : List ℕ) → RequestsOf IsBodyText R.closes more others rest
         → RequestsOf IsBodyText R.closes (taken ++ more) (requests ++ others) rest) }

@@ -5,7 +5,7 @@ use Rattle.std.proofs.lemmas.List.Concat.{flat_map-append}
 use Rattle.httparse.specs.Grammar.{RequestHead, print_request}
 use Rattle.hb_http.specs.ChunkPlaces.{body_start, data_after}
 use Rattle.hb_http.specs.Heads.{IsHead}
-use Rattle.hb_http.specs.Readings.{AreRequests as AreGiven, AreWhole, Given, HasRead, IsBegun, IsBegunInChunks, IsWhole}
+use Rattle.hb_http.specs.Readings.{AreRequests, AreWhole, Given, HasRead, IsBegun, IsBegunInChunks, IsBodyOf, IsWhole}
 use Rattle.hb_http.specs.Requests.{HasNoRequest, IsRequest, Request, RequestsOf, request_text}
 use Rattle.hb_http.specs.declared.chunk_places.ChunkPlace.{ChunkPlace}
 use Rattle.hb_http.specs.declared.places.Place.{Place}
@@ -13,7 +13,7 @@ use Rattle.hb_http.specs.declared.places.Place.TheVariants.{Between, Counted, Ch
 use Rattle.hb_http.proofs.OneReading.{no_head_in_nothing}
 use Rattle.hb_http.proofs.PartRequests.{whole_requests}
 use Rattle.hb_http.proofs.RequestLaws.{RequestsOf-behind}
-use Rattle.hb_talk.specs.Bodies.{AreRequests, Closes, IsLast, IsReadOf, IsReadText, IsTooLong, TellsTooLong}
+use Rattle.hb_talk.specs.Bodies.{AreRead, Closes, IsLast, IsReadOf, IsReadText, IsTooLong, TellsTooLong}
 use Rattle.hb_talk.specs.Talks.{BeginWith}
 use Rattle.hb_talk.specs.Turns.{ClosesBy, Turn, given_by}
 use Rattle.hb_talk.specs.declared.wanted.TheConstants.{MAX_BODY}
@@ -33,7 +33,7 @@ all-open [] open_ by = tt
 all-open (t ∷ turns) open_ by = (not-so t.closes open_.0 by.0, all-open turns open_.1 by.1)
 
 -- they are read whole
-are-read : (gs : List Given) (rs : List Request) → AreGiven gs rs → AllByRecursion StaysOpen gs → AreRequests gs rs
+are-read : (gs : List Given) (rs : List Request) → AreRequests IsBodyOf gs rs → AllByRecursion StaysOpen gs → AreRead gs rs
 are-read [] [] are open_ = tt
 are-read [] (r ∷ rs) are open_ = absurd are
 are-read (g ∷ gs) [] are open_ = absurd are
@@ -41,7 +41,7 @@ are-read (g ∷ gs) (r ∷ rs) are open_ =
     let read = request-read g r are.0.0 are.0.1 are.0.2 (λ long. open_.0 (inr long)) in
     ((are.0.0, read.0, read.1), are-read gs rs are.1 open_.1)
 
-each-request : (gs : List Given) (rs : List Request) → AreRequests gs rs → AllByRecursion (IsRequest IsReadText) rs
+each-request : (gs : List Given) (rs : List Request) → AreRead gs rs → AllByRecursion (IsRequest IsReadText) rs
 each-request [] [] are = tt
 each-request [] (r ∷ rs) are = absurd are
 each-request (g ∷ gs) [] are = absurd are
@@ -52,7 +52,7 @@ none-closes g r same read open_ closes =
     let other = subst (λ h. Closes h r.body) same closes in
     open_ (subst (IsLast g.head) (sym (one-content g.head r.body g.content other.0 read (λ long. open_ (inr long)) other.1)) other.2)
 
-each-open : (gs : List Given) (rs : List Request) → AreRequests gs rs → AllByRecursion StaysOpen gs → AllByRecursion (λ r. IsRequest IsReadText r × ¬ (Closes r.head r.body)) rs
+each-open : (gs : List Given) (rs : List Request) → AreRead gs rs → AllByRecursion StaysOpen gs → AllByRecursion (λ r. IsRequest IsReadText r × ¬ (Closes r.head r.body)) rs
 each-open [] [] are open_ = tt
 each-open [] (r ∷ rs) are open_ = absurd are
 each-open (g ∷ gs) [] are open_ = absurd are
@@ -61,7 +61,7 @@ each-open (g ∷ gs) (r ∷ rs) are open_ = ((are.0.2, none-closes g r are.0.0 a
 -- they stand at the front of the bytes
 pub record Front (gs : List Given) (bytes rest : List ℕ) : Type 0 where
   pub requests : List Request
-  pub given : AreRequests gs requests
+  pub given : AreRead gs requests
   pub begin : BeginWith bytes requests rest
 
 behind-whole : (gs : List Given) (bytes whole rest : List ℕ) → AllByRecursion StaysOpen gs → AreWhole gs whole → bytes ≡ whole ++ rest → Front gs bytes rest
@@ -77,7 +77,7 @@ front-of gs now gone waiting place open_ read =
 -- and they are all of them, where none follows
 pub record All (gs : List Given) (bytes rest : List ℕ) : Type 0 where
   pub requests : List Request
-  pub given : AreRequests gs requests
+  pub given : AreRead gs requests
   pub reads : RequestsOf IsReadText Closes bytes requests rest
 
 reads-on : (gs : List Given) (bytes rest end : List ℕ) → AllByRecursion StaysOpen gs → (front : Front gs bytes rest) → (rs : List Request) → RequestsOf IsReadText Closes rest rs end → RequestsOf IsReadText Closes bytes (front.requests ++ rs) end
@@ -104,7 +104,7 @@ pub record OneMore (gs : List Given) (g : Given) (bytes : List ℕ) : Type 0 whe
   pub read : IsReadOf g.head request.body g.content
   pub is_request : IsRequest IsReadText request
 
-are-both : (gs hs : List Given) (rs qs : List Request) → AreRequests gs rs → AreRequests hs qs → AreRequests (gs ++ hs) (rs ++ qs)
+are-both : (gs hs : List Given) (rs qs : List Request) → AreRead gs rs → AreRead hs qs → AreRead (gs ++ hs) (rs ++ qs)
 are-both [] hs [] qs one two = two
 are-both [] hs (r ∷ rs) qs one two = absurd one
 are-both (g ∷ gs) hs [] qs one two = absurd one
@@ -114,7 +114,7 @@ module _ (gs : List Given) (g : Given) (bytes : List ℕ) (open_ : AllByRecursio
   pub before : Front gs bytes (request_text one.request ++ one.behind)
   before = behind-whole gs bytes one.whole (request_text one.request ++ one.behind) open_ one.are_whole one.text
 
-  all-given : AreRequests (gs ++ g ∷ []) (before.requests ++ one.request ∷ [])
+  all-given : AreRead (gs ++ g ∷ []) (before.requests ++ one.request ∷ [])
   all-given = are-both gs (g ∷ []) before.requests (one.request ∷ []) before.given ((one.same, one.read, one.is_request), tt)
 
   pub front-and : Front (gs ++ g ∷ []) bytes one.behind
@@ -159,7 +159,7 @@ ended-more gs g gone waiting place read short =
     let text : gone ≡ split.0 ++ split.1 = read.text ∙ ap (λ b. read.whole ++ b) (nothing-begun place read.begun read.is_begun) ∙ append-nil read.whole ∙ split.2 in
     go split.0 split.1 one.0 text split.3 one.1 one.2
   where
-    go : (whole text : List ℕ) (rs : List Request) → gone ≡ whole ++ text → AreWhole gs whole → AreGiven (g ∷ []) rs → text ≡ flat_map request_text rs → OneMore gs g (gone ++ waiting)
+    go : (whole text : List ℕ) (rs : List Request) → gone ≡ whole ++ text → AreWhole gs whole → AreRequests IsBodyOf (g ∷ []) rs → text ≡ flat_map request_text rs → OneMore gs g (gone ++ waiting)
     go whole text [] joined are one is = absurd one
     go whole text (r ∷ q ∷ rs) joined are one is = absurd one.1
     go whole text (r ∷ []) joined are one is =

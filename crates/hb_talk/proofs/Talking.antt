@@ -16,7 +16,7 @@ use Rattle.hb_desk.specs.Clause.{View}
 use Rattle.hb_desk.specs.Points.{Point}
 use Rattle.hb_desk.specs.declared.refusals.Refusal.{Refusal}
 use Rattle.hb_desk.proofs.Chains.{chain-append, chain-bytes}
-use Rattle.hb_talk.specs.Bodies.{AreRequests, Closes, IsLast, IsReadText, IsTooLong}
+use Rattle.hb_talk.specs.Bodies.{AreRead, Closes, IsLast, IsReadText, IsTooLong}
 use Rattle.hb_talk.specs.Progress.{Comes, GoesOn, NextTurn, Progress, Reads, RefusesLong, TalkParts, too_long_text}
 use Rattle.hb_talk.specs.Talks.{AtDesk, GoOn, HasCause, HasLeft, HasRefusal, IsMalformedRest, IsOpen, IsOverFirst, Moment, RefusesRest, Talked, Wrote}
 use Rattle.hb_talk.specs.Talks as talks
@@ -397,7 +397,7 @@ module _ (Streams : Option Refusal → Type 0) (start now : Moment) (talk : Talk
           points = [];
           gives = so_far.gives;
           few = few most;
-          given = subst (λ gs. AreRequests gs all.requests) given-is all.given;
+          given = subst (λ gs. AreRead gs all.requests) given-is all.given;
           reads = all.reads;
           each = all_push ClosesBy so_far.turns t so_far.each next.closes;
           goes_on = open-then so_far.turns t so_far.open_;
@@ -420,7 +420,7 @@ module _ (Streams : Option Refusal → Type 0) (start now : Moment) (talk : Talk
           points = [];
           gives = so_far.gives;
           few = few most;
-          given = subst (λ gs. AreRequests gs front.requests) given-is front.given;
+          given = subst (λ gs. AreRead gs front.requests) given-is front.given;
           reads = front.begin;
           each = all_push ClosesBy so_far.turns t so_far.each next.closes;
           goes_on = open-then so_far.turns t so_far.open_;

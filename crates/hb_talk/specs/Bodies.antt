@@ -1,12 +1,12 @@
 -- How much of a body is read: all of it, where its data is short. Of a body whose length is told and isn't short, nothing;
 -- and of one in chunks as much as has more data than that. Such a request is too long.
-use Rattle.std.specs.Prelude.{◌≡◌, ◌<◌, ◌≤◌, ◌⊎◌, ℕ, true, List, [], ◌∷◌, length}
+use Rattle.std.specs.Prelude.{◌≡◌, ◌<◌, ◌≤◌, ◌⊎◌, ℕ, true, List, [], length}
 use Rattle.httparse.specs.Grammar.{RequestHead}
 use Rattle.hb_http.specs.ChunkPlaces.{body_start, data_after}
 use Rattle.hb_http.specs.Framing.{HasLength, IsChunked, asks_to_close}
 use Rattle.hb_http.specs.Headers.{headers_of}
-use Rattle.hb_http.specs.Readings.{Given, IsBodyOf}
-use Rattle.hb_http.specs.Requests.{IsRequest, Request}
+use Rattle.hb_http.specs.Readings.{AreRequests, Given, IsBodyOf}
+use Rattle.hb_http.specs.Requests.{Request}
 use Rattle.hb_talk.specs.declared.wanted.TheConstants.{MAX_BODY}
 
 -- the head tells a length above the limit
@@ -40,9 +40,6 @@ IsLast h content = (asks_to_close h ≡ true) ⊎ IsTooLong h content
 abbrev pub Closes : RequestHead → List ℕ → Type 0
 Closes h body = (content : List ℕ) × IsReadOf h body content × IsLast h content
 
--- one by one, these are requests of the bytes, each with the head and the data that were given
-abbrev pub AreRequests : List Given → List Request → Type 0
-AreRequests [] [] = Unit {0}
-AreRequests [] (r ∷ rs) = ⊥
-AreRequests (g ∷ gs) [] = ⊥
-AreRequests (g ∷ gs) (r ∷ rs) = ((r.head ≡ g.head) × IsReadOf g.head r.body g.content × IsRequest IsReadText r) × AreRequests gs rs
+-- one by one, these are requests of which so much was read, each with the head and the data that were given
+abbrev pub AreRead : List Given → List Request → Type 0
+AreRead = AreRequests IsReadOf

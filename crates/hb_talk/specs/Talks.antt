@@ -15,7 +15,7 @@ use Rattle.hb_desk.specs.Clause.{View}
 use Rattle.hb_desk.specs.Points.{Point}
 use Rattle.hb_desk.specs.declared.refusals.Refusal.{Refusal}
 use Rattle.hb_ops.specs.Errors.{ErrorForm, error_answer, plain}
-use Rattle.hb_talk.specs.Bodies.{AreRequests, Closes, IsReadText}
+use Rattle.hb_talk.specs.Bodies.{AreRead, Closes, IsReadText}
 use Rattle.hb_talk.specs.Texts.{answer_text}
 use Rattle.hb_talk.specs.Turns.{Answers, ClosesBy, LeavesUnanswered, Turn, given_by, points_of, turns_text}
 use Rattle.hb_talk.specs.declared.ends.TalkEnd.{TalkEnd}
@@ -121,7 +121,7 @@ pub record LeavesFirst (Streams : Option Refusal → Type 0) (rest : List ℕ) (
   pub request : Request
   pub behind : List ℕ
   pub begins : BeginWith rest (request ∷ []) behind
-  pub is : AreRequests (given ∷ []) (request ∷ [])
+  pub is : AreRead (given ∷ []) (request ∷ [])
   pub left : LeavesUnanswered Streams given points
 
 -- the points behind those of the turns: only where memory was wanting there are any
@@ -144,7 +144,7 @@ pub record Talked (Streams : Option Refusal → Type 0) (start now : Moment) (en
   pub points : List Point
   pub gives : Gives start.left now.left taken
   pub few : length taken ≤ 2 ^ 62
-  pub given : AreRequests (given_by turns) requests
+  pub given : AreRead (given_by turns) requests
   pub reads : Reads end taken requests rest
   pub each : AllByRecursion ClosesBy turns
   pub goes_on : GoOn turns
