@@ -3,7 +3,7 @@ use Rattle.std.proofs.Common.{◌≡◌, ◌≤◌, ◌^◌, ℕ, suc, Bool, tru
 use Rattle.std.specs.List.{AllByRecursion}
 use Rattle.hb_records.specs.Entries.{AuditEntry}
 use Rattle.hb_records.specs.declared.entries.EntryKind.{EntryKind}
-use Rattle.hb_desk.specs.Calls.{Outcome}
+use Rattle.hb_desk.specs.Calls.{Asked, BlobOpened, Call, ManifestOpened, Outcome, StageDropped, StagePlaced, StageTaken}
 use Rattle.hb_desk.specs.Reply.{reply}
 use Rattle.hb_desk.specs.Chains.{Chain, IsSpentByReply, Stands, StandsBehind}
 use Rattle.hb_desk.specs.Clause.{Leaves, MineGrows, View, is_fault, may_be_unmade}
@@ -19,9 +19,15 @@ same-state s s' e = cc e
 
 -- ---- behind one event
 -- an event that may not have been made has no entry
-unmade-none : {A : Type 0} (seat : Bool) (outcome : Outcome) (made : Option EntryKind) (kind : EntryKind) → may_be_unmade seat outcome ≡ true → acknowledged outcome made ≡ Some kind → A
-unmade-none seat (Ok gave) made kind unmade is = absurd (cc unmade)
-unmade-none seat (Err refusal) made kind unmade is = absurd (cc is)
+unmade-none : {A : Type 0} (seat : Bool) (call : Call) (outcome : Outcome) (made : Option EntryKind) (kind : EntryKind) → may_be_unmade seat call outcome ≡ true → acknowledged outcome made ≡ Some kind → A
+unmade-none seat call (Err refusal) made kind unmade is = absurd (cc is)
+unmade-none seat (Asked ask) (Ok gave) made kind unmade is = absurd (cc unmade)
+unmade-none seat (StageTaken name upload start) (Ok gave) made kind unmade is = absurd (cc unmade)
+unmade-none seat (StagePlaced upload d) (Ok gave) made kind unmade is = absurd (cc unmade)
+unmade-none seat (StageDropped upload true) (Ok gave) made kind unmade is = absurd (cc unmade)
+unmade-none seat (StageDropped upload false) (Ok gave) made kind unmade is = absurd (cc unmade)
+unmade-none seat (BlobOpened name d) (Ok gave) made kind unmade is = absurd (cc unmade)
+unmade-none seat (ManifestOpened name ref) (Ok gave) made kind unmade is = absurd (cc unmade)
 
 event-goes : (ev : Event) (at s : State) (new : View) → Leaves new ev at → new.state ≡ Some s → GoesOn at.audit s.audit
 event-goes ev at s new (inl made) here = subst (λ x. GoesOn at.audit x.audit) (same-state _ s (sym made ∙ here)) (entered-goes ev.moment (entry_of ev at) at.audit)
@@ -30,7 +36,7 @@ event-goes ev at s new (inr unmade) here = subst (λ x. GoesOn at.audit x.audit)
 own-entry : (ev : Event) (at s : State) (old new : View) (made : Option EntryKind) → entry_of ev at ≡ made → MineGrows old new (length at.audit) (is_some made) → Leaves new ev at → new.state ≡ Some s → IfSome made (λ kind. GoesOn (happens ev at).audit s.audit × (new.mine (suc (length at.audit)) ≡ true))
 own-entry ev at s old new None is mine leaves here = tt
 own-entry ev at s old new (Some kind) is mine (inl made) here = (subst (λ x. GoesOn (happens ev at).audit x.audit) (same-state _ s (sym made ∙ here)) ([], refl), (mine.own refl).0)
-own-entry ev at s old new (Some kind) is mine (inr unmade) here = unmade-none new.spent ev.outcome _ kind unmade.0 is
+own-entry ev at s old new (Some kind) is mine (inr unmade) here = unmade-none new.spent ev.call ev.outcome _ kind unmade.0 is
 
 event-stands : (ev : Event) (at s : State) (old new : View) → MineGrows old new (length at.audit) (is_some (entry_of ev at)) → Leaves new ev at → new.state ≡ Some s → Stands s.audit (λ n. new.mine n ≡ true) ev at
 event-stands ev at s old new mine leaves here = record { seen = event-goes ev at s new leaves here; own = own-entry ev at s old new (entry_of ev at) refl mine leaves here }

@@ -19,6 +19,7 @@ pub between-by : (old new : View) (now : ℕ) (at : Option State) (call : Call) 
 between-by old new now at call outcome fault stood causes = record {
   is = refl;
   stood = stood;
+  told = causes.told;
   caused = record { keeper = causes.keeper; storage = causes.storage };
   spent = causes.spent;
   moves = record { keeper_later = causes.keeper_later; store_later = causes.store_later; entries = causes.entries; rises = causes.rises; seat = causes.seat; sole = causes.sole; told_bytes = causes.told_bytes };

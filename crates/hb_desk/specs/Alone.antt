@@ -1,5 +1,5 @@
 -- What contracts see of a caller that isn't alone.
-use Rattle.std.specs.Prelude.{◌≡◌, ◌≤◌, ℕ, Bool, false, List, Some, nat_eq}
+use Rattle.std.specs.Prelude.{◌≡◌, ◌≤◌, ℕ, Bool, false, List, Some, None, nat_eq}
 use Rattle.std.specs.List.{list_any}
 use Rattle.hb_records.specs.declared.notes.Sealed.{Sealed}
 use Rattle.hb_desk.specs.Clause.{View}
@@ -17,10 +17,12 @@ pub record AloneParts (D X : Type 0) : Type 0 where
 abbrev pub is_own : List ℕ → ℕ → Bool
 is_own own n = list_any (nat_eq n) own
 
--- the desk's view, with what is the caller's own, and with others
+-- The desk's view, with what is the caller's own, and with others. What the desk tells of events is theirs too, so that the
+-- caller's own aren't told.
 abbrev pub alone_view : View → List ℕ → ℕ → List Sealed → View
 alone_view v own last sealed = record {
   state = v.state;
+  events = None;
   entries = v.entries;
   moment = v.moment;
   mine = is_own own;

@@ -1,10 +1,10 @@
 -- The clause of every event of a desk: what contracts see of a desk, and what one event makes of it.
-use Rattle.std.specs.Prelude.{◌≡◌, ◌≤◌, ◌<◌, ◌⊎◌, ◌^◌, ℕ, suc, min, Bool, true, false, List, [], ◌∷◌, length, Option, Some, is_some, nat_eq, IfSome, Result, Ok, Err}
+use Rattle.std.specs.Prelude.{◌≡◌, ◌≤◌, ◌<◌, ◌⊎◌, ◌^◌, ℕ, suc, min, Bool, true, false, List, [], ◌∷◌, length, Option, Some, is_some, nat_eq, option_map, IfSome, Result, Ok, Err}
 use Rattle.hb_outside.specs.Causes.{Rose}
 use Rattle.hb_records.specs.Entries.{LAST_MOMENT}
 use Rattle.hb_records.specs.declared.notes.Sealed.{Sealed}
 use Rattle.hb_model.specs.History.{History, latest}
-use Rattle.hb_desk.specs.Calls.{Call, Asked, StagePlaced, Outcome}
+use Rattle.hb_desk.specs.Calls.{Call, Asked, StagePlaced, StageDropped, Outcome}
 use Rattle.hb_desk.specs.Events.{Event, entry_of, happens, after}
 use Rattle.hb_desk.specs.Notes.{sealed_at}
 use Rattle.hb_desk.specs.Reply.{reply}
@@ -18,6 +18,8 @@ use Rattle.hb_desk.specs.declared.refusals.Refusal.TheVariants.{Memory, Keeper, 
 pub record View : Type 0 where
   -- the audit that the caller has seen and the notes, where the desk tells them
   pub state : Option State
+  -- the caller's own events, the newest first, where the desk tells them
+  pub events : Option (List Event)
   -- how many entries the caller has seen, told or not
   pub entries : ℕ
   -- the moment of the caller's last event
@@ -45,11 +47,14 @@ is_fault seat (Err Storage) = true
 is_fault seat (Err Spent) = seat
 is_fault seat outcome = false
 
--- the event wasn't made, or it can't be told whether it was
-abbrev pub may_be_unmade : Bool → Outcome → Bool
-may_be_unmade seat (Err Memory) = true
-may_be_unmade seat (Err Spent) = seat
-may_be_unmade seat outcome = false
+-- The event wasn't made, or it can't be told whether it was. A stage that is handed in is given up by its event, whatever
+-- is answered: there no memory is taken before it.
+abbrev pub may_be_unmade : Bool → Call → Outcome → Bool
+may_be_unmade seat (StagePlaced upload d) (Err Memory) = false
+may_be_unmade seat (StageDropped upload true) (Err Memory) = false
+may_be_unmade seat call (Err Memory) = true
+may_be_unmade seat call (Err Spent) = seat
+may_be_unmade seat call outcome = false
 
 -- the outcome is the reply, or a fault
 abbrev pub Fits : Bool → Event → State → Type 0
@@ -77,6 +82,10 @@ moves_seal u (Asked (SealManifest upload put)) (Ok gave) = nat_eq u upload
 moves_seal u (StagePlaced upload d) outcome = nat_eq u upload
 moves_seal u call outcome = false
 
+-- with this event as the newest, where events are told
+abbrev pub with_event : Event → Option (List Event) → Option (List Event)
+with_event ev events = option_map (λ older. ev ∷ older) events
+
 -- Its numbers and causes, which hold of every desk.
 pub record Causes (old new : View) (now : ℕ) (call : Call) (outcome : Outcome) : Type 0 where
   pub keeper_later : old.keeper_faults ≤ new.keeper_faults
@@ -89,7 +98,8 @@ pub record Causes (old new : View) (now : ℕ) (call : Call) (outcome : Outcome)
   pub room : new.entries ≤ 2 ^ 62
   pub rises : old.moment ≤ new.moment
   pub sealed : (u : ℕ) (x : Sealed) → moves_seal u call outcome ≡ false → sealed_at u old.sealed ≡ Some x → sealed_at u new.sealed ≡ Some x
-  pub moment : may_be_unmade new.spent outcome ≡ false → min now LAST_MOMENT ≤ new.moment
+  pub moment : may_be_unmade new.spent call outcome ≡ false → min now LAST_MOMENT ≤ new.moment
+  pub told : new.events ≡ with_event (record { call = call; moment = new.moment; outcome = outcome }) old.events
   pub sole : new.sole ≡ old.sole
   pub told_bytes : new.told_bytes ≡ old.told_bytes
 
@@ -102,7 +112,7 @@ pub record MineGrows (old new : View) (n : ℕ) (committed : Bool) : Type 0 wher
 
 -- the event was made; or, at an outcome that allows it, it wasn't
 abbrev pub Leaves : View → Event → State → Type 0
-Leaves new ev s = (new.state ≡ Some (happens ev s)) ⊎ ((may_be_unmade new.spent ev.outcome ≡ true) × (new.state ≡ Some s))
+Leaves new ev s = (new.state ≡ Some (happens ev s)) ⊎ ((may_be_unmade new.spent ev.call ev.outcome ≡ true) × (new.state ≡ Some s))
 
 -- One event, at a state that others' events made of the state before it.
 pub record EventFrom (before : State) (old new : View) (call : Call) (outcome : Outcome) : Type 0 where

@@ -1,5 +1,5 @@
 -- Events, and what a list of them makes of a state. The newest event stands first.
-use Rattle.std.specs.Prelude.{ℕ, suc, Bool, List, [], ◌∷◌, length, Option, Some, None, Ok, Err, map}
+use Rattle.std.specs.Prelude.{ℕ, suc, List, [], ◌∷◌, length, Option, Some, None, Ok, Err}
 use Rattle.hb_records.specs.Entries.{AuditEntry}
 use Rattle.hb_records.specs.declared.entries.EntryKind.{EntryKind}
 use Rattle.hb_desk.specs.Calls.{Call, Outcome}
@@ -33,18 +33,3 @@ happens ev s = record {
 abbrev pub after : List Event → State → State
 after [] s = s
 after (ev ∷ events) s = happens ev (after events s)
-
--- An item of a log: an event with its caller, and which counts of faults rose in it.
-pub record LogItem : Type 0 where
-  pub caller : ℕ
-  pub event : Event
-  pub keeper_rose : Bool
-  pub store_rose : Bool
-
--- all events of a run, the newest first, those without an entry too
-abbrev pub Log : Type 0
-Log = List LogItem
-
--- what a log makes of the state with which it began
-abbrev pub after_log : Log → State → State
-after_log log s = after (map (λ x. x.event) log) s

@@ -3,7 +3,7 @@ use Rattle.std.specs.Prelude.{◌≡◌, ◌≤◌, ◌⊎◌, ◌^◌, ℕ, tru
 use Rattle.hb_outside.specs.Causes.{Rose}
 use Rattle.hb_store.specs.Causes.{SomeRose}
 use Rattle.hb_desk.specs.Calls.{Call, Outcome}
-use Rattle.hb_desk.specs.Clause.{View, EventFrom}
+use Rattle.hb_desk.specs.Clause.{View, EventFrom, with_event}
 use Rattle.hb_desk.specs.Events.{Event, after}
 use Rattle.hb_desk.specs.State.{State}
 use Rattle.hb_desk.specs.declared.refusals.Refusal.{Refusal}
@@ -62,10 +62,11 @@ StoodAt None old new call outcome at = at ≡ None
 StoodAt (Some before) old new call outcome at = (event : EventFrom before old new call outcome) × (at ≡ Some (after event.others before))
 
 -- The point is that of an event between these two views of a desk. A desk that doesn't tell what was seen tells at least
--- what the event may have been refused for.
+-- the causes of KEEPER, STORAGE and SPENT; one that tells its caller's events tells this one as the newest.
 pub record IsBetween (p : Point) (old new : View) : Type 0 where
   pub is : p ≡ point_of old new p.state p.event.call p.event.outcome p.fault
   pub stood : StoodAt old.state old new p.event.call p.event.outcome p.state
+  pub told : new.events ≡ with_event p.event old.events
   pub caused : IsCaused p
   pub spent : p.event.outcome ≡ Err Spent → (new.spent ≡ true) ⊎ (2 ^ 62 ≤ new.entries)
   pub moves : Moves old new

@@ -221,6 +221,8 @@ impl<D: Desk, X: Others<D>> Desk for Alone<D, X> {
 
     ghost one_length = { λ a. D.one_length a.desk };
 
+    ghost no_stage = { λ a upload. D.no_stage a.desk upload };
+
     fn ask(&mut self, ask: &Ask, now: u64) -> Result<Told, Refusal> {
         let seal = seal_of(ask);
         between(&mut self.others, &mut self.desk, &self.sealed, now);

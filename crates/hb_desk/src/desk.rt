@@ -1,4 +1,4 @@
-ghost use Rattle.std.specs.Prelude.{◌≡◌, ◌≤◌, ◌^◌, ℕ, true, false, length, Some, IfOk, IfSome, IsSomeAnd};
+ghost use Rattle.std.specs.Prelude.{◌≡◌, ◌≢◌, ◌≤◌, ◌<◌, ◌^◌, ℕ, true, false, length, Some, IfOk, IfSome, IsSomeAnd, OnOk};
 ghost use Rattle.std.specs.Option.{option_copied};
 ghost use Rattle.hb_text.specs.Digests.{digest_of};
 ghost use Rattle.hb_desk.specs.Calls.{Asked, StageTaken, StagePlaced, StageDropped, BlobOpened, ManifestOpened, Tells, StageAt, Number, Dropped, Content, plain};
@@ -29,11 +29,15 @@ pub trait Desk {
     /// No digest stands for two lengths in what its store ever placed.
     ghost one_length: { Self → Type 0 };
 
+    /// The upload has no stage in what its store tells.
+    ghost no_stage: { Self → ℕ → Type 0 };
+
     /// Asks for what takes no stage and no reader.
     fn ask(&mut self, ask: &Ask, now: u64) -> Result<Told, Refusal>
         ensures event { EventOf (view self.old) (view self.new) (Asked ask.now) (plain Tells result) }
         ensures causes { Causes (view self.old) (view self.new) now (Asked ask.now) (plain Tells result) }
-        ensures seals { Seals ask.now result (view self.new).sealed };
+        ensures seals { Seals ask.now result (view self.new).sealed }
+        ensures own { (view self.new).last ≢ (view self.old).last → ((view self.old).entries < (view self.new).last) × ((view self.new).last ≤ (view self.new).entries) };
 
     /// Gives the stage of an upload of the repository, with the bytes that were acknowledged. A `start` that isn't
     /// their number is refused. The stage is out until it is handed to `place` or `drop_stage`.
@@ -62,18 +66,21 @@ pub trait Desk {
         requires stage { Self.Stage.upload stage ≡ upload }
         requires bytes { (view self.old).told_bytes ≡ true → IsSomeAnd (Self.Stage.bytes stage) (λ b. (digest_of b ≡ digest.now) × (length b ≡ Self.Stage.size stage)) }
         ensures event { EventOf (view self.old) (view self.new) (StagePlaced upload digest.now) (plain Number result) }
-        ensures causes { Causes (view self.old) (view self.new) now (StagePlaced upload digest.now) (plain Number result) };
+        ensures causes { Causes (view self.old) (view self.new) now (StagePlaced upload digest.now) (plain Number result) }
+        ensures ended { OnOk result (no_stage self.new upload) };
 
     /// Ends the stage of an upload, which is given up, whatever is answered.
     fn drop_stage(&mut self, upload: u64, stage: Self::Stage, now: u64) -> Result<(), Refusal>
         requires stage { Self.Stage.upload stage ≡ upload }
         ensures event { EventOf (view self.old) (view self.new) (StageDropped upload true) (plain (λ _. Dropped) result) }
-        ensures causes { Causes (view self.old) (view self.new) now (StageDropped upload true) (plain (λ _. Dropped) result) };
+        ensures causes { Causes (view self.old) (view self.new) now (StageDropped upload true) (plain (λ _. Dropped) result) }
+        ensures ended { OnOk result (no_stage self.new upload) };
 
     /// Ends the stage of an upload that nobody holds. It is refused where the stage is out, or the upload is there.
     fn drop_left_stage(&mut self, upload: u64, now: u64) -> Result<(), Refusal>
         ensures event { EventOf (view self.old) (view self.new) (StageDropped upload false) (plain (λ _. Dropped) result) }
-        ensures causes { Causes (view self.old) (view self.new) now (StageDropped upload false) (plain (λ _. Dropped) result) };
+        ensures causes { Causes (view self.old) (view self.new) now (StageDropped upload false) (plain (λ _. Dropped) result) }
+        ensures ended { OnOk result (no_stage self.new upload) };
 
     /// Opens a blob that the repository's project has.
     fn open_blob(
@@ -99,7 +106,8 @@ pub trait Desk {
         ensures bytes { (view self.old).told_bytes ≡ true → IfOk result (λ o. IsSomeAnd (Self.Reader.bytes o.reader) (λ b. (digest_of b ≡ o.digest) × (length b ≡ Self.Reader.left o.reader))) }
         ensures length { one_length self.new → IfOk result (λ o. Self.Reader.left o.reader ≡ o.size) };
 
-    /// How many entries the caller has seen. It also tells what is known of what was seen.
+    /// How many entries the caller has seen. It never falls, and rises with each own entry. It also tells what is known of
+    /// what was seen.
     fn seen(&self) -> u64
         ensures is { result ≡ (view self.now).entries }
         ensures room { (view self.now).entries ≤ 2 ^ 62 }

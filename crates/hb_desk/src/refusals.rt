@@ -3,7 +3,7 @@ use hb_store::StoreFault;
 use hb_text::Digest;
 use std::alloc::AllocError;
 
-/// Why a call of a desk is refused, in the order of the table in docs/ANSWERS.md.
+/// Why a call of a desk is refused. docs/ANSWERS.md has the cause of each that a request can meet.
 #[derive(Debug, PartialEq, Eq, Drop)]
 pub enum Refusal {
     /// Memory was wanting.

@@ -50,9 +50,11 @@ impl Desk for StoreDesk {
 
     type Reader = MemReader;
 
-    ghost view = { λ d. record { state = None; entries = 0; moment = d.moment; mine = λ n. false; last = 0; sealed = d.sealed; keeper_faults = 0; store_faults = d.store.script.faults; told_bytes = false; sole = false; spent = false } };
+    ghost view = { λ d. record { state = None; events = None; entries = 0; moment = d.moment; mine = λ n. false; last = 0; sealed = d.sealed; keeper_faults = 0; store_faults = d.store.script.faults; told_bytes = false; sole = false; spent = false } };
 
     ghost one_length = { λ d. Unit {0} };
+
+    ghost no_stage = { λ d upload. Unit {0} };
 
     fn ask(&mut self, ask: &Ask, now: u64) -> Result<Told, Refusal> {
         self.moment = self.moment.max(now);

@@ -1,5 +1,5 @@
 -- Why a call of a storage device failed.
-use Rattle.std.specs.Prelude.{◌≤◌, ◌⊎◌, ℕ, Result, IsErrOf}
+use Rattle.std.specs.Prelude.{◌≤◌, ℕ, Result, IsErrOf}
 use Rattle.hb_outside.specs.Causes.{Rose}
 use Rattle.hb_store.specs.declared.store.StoreFault.{StoreFault}
 use Rattle.hb_store.specs.declared.store.StoreFault.TheVariants.{Failed}
@@ -12,8 +12,3 @@ pub record StoreCause {T : Type 0} (before now : ℕ) (result : Result T StoreFa
 -- the count of a stage or a reader rose, between two of its states
 abbrev pub SomeRose : (A : Type 0) → (A → ℕ) → Type 0
 SomeRose A faults = (before : A) × (now : A) × Rose (faults before) (faults now)
-
--- The storage's faults rose: the store's own, or those of a stage or of a reader. Code that is generic
--- over the store can show either of the last two only by a call that failed.
-abbrev pub StorageRose : (Stage Reader : Type 0) → (Stage → ℕ) → (Reader → ℕ) → ℕ → ℕ → Type 0
-StorageRose Stage Reader stage_faults reader_faults before now = Rose before now ⊎ SomeRose Stage stage_faults ⊎ SomeRose Reader reader_faults

@@ -1,17 +1,20 @@
 -- What the calls of a store leave of what it holds.
 use Rattle.std.proofs.Common.{◌≡◌, ℕ, Bool, true, false, cond, List, [], ◌∷◌, length, Option, Some, None, Result, Ok, Err, IfSome, IsSome, IsSomeAnd, refl, sym, ap, subst, ◌∙◌, fold, arith}
 use Rattle.std.specs.List.{AllByRecursion}
-use Rattle.std.specs.Ordering.{is_eq}
+use Rattle.std.specs.Ordering.{nat_cmp, is_eq}
+use Rattle.std.proofs.lemmas.Cmp.{tied_itself, nat_cmp_total}
+use Rattle.hb_base.specs.Tables.{row_at}
+use Rattle.hb_base.proofs.TableLaws.{row_at-without}
 use Rattle.hb_text.specs.Digests.{digest_of}
 use Rattle.hb_text.specs.declared.digests.Digest.{Digest}
-use Rattle.hb_store.specs.Contents.{Contents, digest_cmp, bytes_of, IsLapsing, lapsed, holding, counting, unstaged}
+use Rattle.hb_store.specs.Contents.{Contents, digest_cmp, bytes_of, stage_key, IsLapsing, lapsed, holding, counting, unstaged}
 use Rattle.hb_store.specs.Calls.{Finds, Becomes, Staging, Placing, Dropping, Unchanged}
 use Rattle.hb_store.specs.declared.rows.StagedBytes.{StagedBytes}
 use Rattle.hb_store.specs.declared.store.StoreFault.{StoreFault}
 use Rattle.hb_store.specs.declared.store.StoreFault.TheVariants.{Failed, Memory}
 use Rattle.hb_store.proofs.HeldBytes.{digest_cmp-equal, digest_cmp-same, bytes_of-holding, bytes_of-lapsed}
 use Rattle.hb_model.specs.Whole.{IsWhole}
-use Rattle.hb_world.specs.StoreStands.{IsHeld, Stands, StillHolds}
+use Rattle.hb_world.specs.StoreStands.{HasNoStage, IsHeld, Stands, StillHolds}
 use Rattle.hb_world.specs.Worlds.{IsTrueTo}
 use Rattle.hb_world.proofs.StoreSteps.{IsWhole-counting, IsWhole-found, IsWhole-placed, IsWhole-stages}
 
@@ -122,6 +125,22 @@ StillHolds-dropping id (Err Memory) found c effect = subst (StillHolds found) (s
 
 pub Stands-dropping : {T : Type 0} (old : Option Contents) (now id : ℕ) (result : Result T StoreFault) (new : Option Contents) → Becomes old now (Dropping id result) new → Stands old new
 Stands-dropping old now id result new = Stands-becomes old now (Dropping id result) new (StillHolds-dropping id result)
+
+-- an upload whose stage was ended has none
+unstaged-none : (id : ℕ) (c : Contents) → row_at nat_cmp stage_key id (unstaged id c).stages ≡ None
+unstaged-none id c = row_at-without nat_cmp_total stage_key id id c.stages ∙ ap (λ o. cond (is_eq o) None (row_at nat_cmp stage_key id c.stages)) (tied_itself nat_cmp_total id)
+
+ended-by : (old : Option Contents) (now id : ℕ) (Effect : Contents → Contents → Type 0) (before : Contents → Contents) (new : Option Contents) → ((found c : Contents) → Effect found c → c ≡ unstaged id (before found)) → Becomes old now Effect new → HasNoStage new id
+ended-by None now id Effect before new is becomes = subst (λ new. HasNoStage new id) (sym becomes) tt
+ended-by (Some c) now id Effect before None is becomes = tt
+ended-by (Some c) now id Effect before (Some c') is becomes = subst (λ x. HasNoStage (Some x) id) (sym (is becomes.0 c' becomes.2)) (unstaged-none id (before becomes.0))
+
+pub dropped-ended : (old : Option Contents) (now id : ℕ) (x : Unit {0}) (new : Option Contents) → Becomes old now (Dropping id (Ok x)) new → HasNoStage new id
+dropped-ended old now id x new = ended-by old now id (Dropping id (Ok x)) (λ found. found) new (λ found c e. e)
+
+pub placed-ended : (old : Option Contents) (now id : ℕ) (told : Option (List ℕ)) (d : Digest) (x : Unit {0}) (new : Option Contents) → Becomes old now (Placing id told d (Ok x)) new → HasNoStage new id
+placed-ended old now id None d x new = ended-by old now id (Placing id None d (Ok x)) (λ found. found) new (λ found c e. absurd e)
+placed-ended old now id (Some bytes) d x new = ended-by old now id (Placing id (Some bytes) d (Ok x)) (λ found. holding d bytes (counting d bytes found)) new (λ found c e. e)
 
 -- a content that stands, without a stage
 without_stage : (id : ℕ) (found c : Contents) → StillHolds found c → StillHolds found (unstaged id c)

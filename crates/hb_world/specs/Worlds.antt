@@ -81,6 +81,7 @@ pub record IsWorld (w : Shown) : Type 0 where
 abbrev pub view_of : Shown → View
 view_of w = record {
   state = option_map (λ r. state_of r w.notes) w.rows;
+  events = None;
   entries = w.entries;
   moment = w.moment;
   mine = nat_lt w.start;

@@ -1,6 +1,6 @@
 //! An ask of a world: it is planned over the rows, the batch of its entry is committed, and what is remembered
 //! is brought up to date.
-ghost use Rattle.std.specs.Prelude.{◌≡◌, ◌≤◌, ◌^◌, length, None, IfSome, IfOk, IfErr, IsErrOf};
+ghost use Rattle.std.specs.Prelude.{◌≡◌, ◌≢◌, ◌≤◌, ◌<◌, ◌^◌, length, None, IfSome, IfOk, IfErr, IsErrOf};
 ghost use Rattle.hb_outside.specs.Causes.{Rose};
 ghost use Rattle.hb_records.specs.Entries.{LAST_MOMENT};
 ghost use Rattle.hb_records.specs.declared.notes.Notes.{Notes};
@@ -48,6 +48,7 @@ fn commit_planned<K: Keeper>(
     ensures rows { IfOk result (λ _. K.rows keeper.new ≡ with_batch planned.batch (K.rows keeper.old)) }
     ensures count { IfOk result (λ _. entries.new ≡ count_with planned.batch entries.old) }
     ensures last { IfOk result (λ _. last.new ≡ last_with planned.batch entries.old last.old) }
+    ensures own { last.new ≢ last.old → (entries.old < last.new) × (last.new ≤ entries.new) }
     ensures same { IfErr result (λ _. (K.rows keeper.new ≡ K.rows keeper.old) × (entries.new ≡ entries.old) × (last.new ≡ last.old)) }
     ensures fault { IfErr result IsPlanFault }
     ensures later { K.faults keeper.old ≤ K.faults keeper.new }
@@ -82,6 +83,7 @@ fn commit_ask<K: Keeper>(
     ensures room { entries.new ≤ 2 ^ 62 }
     ensures grows { entries.old ≤ entries.new }
     ensures low { last.old ≤ entries.old → last.new ≤ entries.new }
+    ensures own { last.new ≢ last.old → (entries.old < last.new) × (last.new ≤ entries.new) }
     ensures later { K.faults keeper.old ≤ K.faults keeper.new }
     ensures keeper { IsErrOf result KeeperFailed → Rose (K.faults keeper.old) (K.faults keeper.new) }
     ensures storage { ¬ (IsErrOf result Storage) }
@@ -134,6 +136,7 @@ pub(crate) fn ask_noted<K: Keeper>(
     ensures room { entries.new ≤ 2 ^ 62 }
     ensures grows { entries.old ≤ entries.new }
     ensures low { last.old ≤ entries.old → last.new ≤ entries.new }
+    ensures own { last.new ≢ last.old → (entries.old < last.new) × (last.new ≤ entries.new) }
     ensures later { K.faults keeper.old ≤ K.faults keeper.new }
     ensures keeper { IsErrOf result KeeperFailed → Rose (K.faults keeper.old) (K.faults keeper.new) }
     ensures storage { ¬ (IsErrOf result Storage) }

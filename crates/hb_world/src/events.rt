@@ -20,6 +20,7 @@ fn moment_of(last: u64, now: u64) -> u64
 }
 
 impl<K: Keeper, S: Store> Desk for World<K, S> {
+    ghost use Rattle.hb_world.specs.StoreStands.{HasNoStage};
     ghost use Rattle.hb_world.specs.Worlds.{OneLengthTold, shown, view_of};
 
     type Stage = S::Stage;
@@ -29,6 +30,8 @@ impl<K: Keeper, S: Store> Desk for World<K, S> {
     ghost view = { λ w. view_of (shown K.rows K.faults S.contents S.faults w) };
 
     ghost one_length = { λ w. OneLengthTold (K.rows w.keeper) (S.contents w.store) };
+
+    ghost no_stage = { λ w upload. HasNoStage (S.contents w.store) upload };
 
     fn ask(&mut self, ask: &Ask, now: u64) -> Result<Told, Refusal> {
         let moment = moment_of(self.moment, now);

@@ -9,7 +9,7 @@ ghost use Rattle.hb_desk.specs.Calls.{StageTaken, StageDropped, StageAt, Number,
 ghost use Rattle.hb_desk.specs.Notes.{is_out as stage_is_out, sealed_at};
 ghost use Rattle.hb_desk.specs.Noting.{handed_back, placing, taking_out};
 ghost use Rattle.hb_desk.specs.declared.refusals.Refusal.TheVariants.{Keeper as KeeperFailed, Storage, Spent};
-ghost use Rattle.hb_world.specs.StoreStands.{Stands};
+ghost use Rattle.hb_world.specs.StoreStands.{HasNoStage, Stands};
 ghost use Rattle.hb_world.specs.Storing.{IsStoreFault, RowsReply, upload_over};
 
 use crate::looking::has_project;
@@ -133,6 +133,7 @@ pub(crate) fn place_noted<S: Store>(
     requires bytes { IfSome (S.contents store.old) (λ _. IsSomeAnd (S.Stage.bytes stage) (λ b. (digest_of b ≡ digest.now) × (length b ≡ S.Stage.size stage))) }
     ensures number { IfOk result (λ n. n ≡ entries) }
     ensures noted { notes.new ≡ placing upload entries (plain Number result) notes.old }
+    ensures ended { OnOk result (HasNoStage (S.contents store.new) upload) }
     ensures held { OnOk result (IfSome (S.contents store.new) (λ c. IsSomeAnd (bytes_of c digest.now) (λ b. (digest_of b ≡ digest.now) × (length b ≡ S.Stage.size stage)))) }
     ensures stands { Stands (S.contents store.old) (S.contents store.new) }
     ensures fault { IfErr result IsStoreFault }
@@ -161,6 +162,7 @@ pub(crate) fn place_noted<S: Store>(
 
 // Ends the upload's stage in the store.
 fn end_stage<S: Store>(store: &mut S, upload: u64, moment: u64) -> Result<(), Refusal>
+    ensures ended { OnOk result (HasNoStage (S.contents store.new) upload) }
     ensures stands { Stands (S.contents store.old) (S.contents store.new) }
     ensures fault { IfErr result IsStoreFault }
     ensures later { S.faults store.old ≤ S.faults store.new }
@@ -181,6 +183,7 @@ pub(crate) fn drop_handed<S: Store>(
     moment: u64,
 ) -> Result<(), Refusal>
     ensures noted { notes.new ≡ handed_back upload true notes.old }
+    ensures ended { OnOk result (HasNoStage (S.contents store.new) upload) }
     ensures stands { Stands (S.contents store.old) (S.contents store.new) }
     ensures fault { IfErr result IsStoreFault }
     ensures later { S.faults store.old ≤ S.faults store.new }
@@ -200,6 +203,7 @@ pub(crate) fn drop_left<K: Keeper, S: Store>(
     moment: u64,
 ) -> Result<(), Refusal>
     ensures reply { (n : Notes) → stage_is_out n upload ≡ out → RowsReply (K.rows keeper.old) n (StageDropped upload false) (plain (λ _. Dropped) result) }
+    ensures ended { OnOk result (HasNoStage (S.contents store.new) upload) }
     ensures rows { K.rows keeper.new ≡ K.rows keeper.old }
     ensures stands { Stands (S.contents store.old) (S.contents store.new) }
     ensures keeper_later { K.faults keeper.old ≤ K.faults keeper.new }

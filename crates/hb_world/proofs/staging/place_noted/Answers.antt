@@ -1,5 +1,8 @@
-use Rattle.hb_world.proofs.Standing.{Stands-given, held-given}
+use Rattle.hb_world.proofs.Standing.{Stands-given, held-given, placed-ended}
 use Rattle.hb_world.proofs.staging.place_noted.Goals as goal
+
+pub returns-in-Ok-clause-ended : goal.returns-in-Ok-clause-ended
+returns-in-Ok-clause-ended g c = placed-ended _ c.args.moment c.args.upload _ c.args.digest.now _ _ c.in-Ok.ensures.contents
 
 pub returns-in-Ok-clause-held : goal.returns-in-Ok-clause-held
 returns-in-Ok-clause-held g c = held-given _ _ c.args.moment c.args.upload _ c.args.digest.now _ _ c.requires.bytes c.in-Ok.ensures.contents

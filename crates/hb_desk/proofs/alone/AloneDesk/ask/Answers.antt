@@ -1,4 +1,4 @@
-use Rattle.std.proofs.Common.{◌≡◌, ◌∷◌, ap, sym, subst, ◌∙◌, arith, rules}
+use Rattle.std.proofs.Common.{◌≡◌, ◌≢◌, ◌∷◌, ap, sym, subst, ◌∙◌, arith, rules}
 use Rattle.std.specs.Prelude.{slice_set}
 use Rattle.hb_desk.specs.Noting.{with_seal}
 use Rattle.hb_desk.specs.Clause.{Seals}
@@ -26,3 +26,10 @@ returns-clause-seals g c =
     let slot : c.reserve.new.sealed ≡ with_seal c.seal_of-seal.result c.self.inside.sealed = search rules in
     let kept = sealed-kept c.args.ask.now c.ask-result.result c.seal_of-seal.result c.reserve.new.sealed c.keep_seal.new.sealed c.self.inside.sealed c.is_err-2.result c.seal_of-seal.ensures slot c.is_err-2.ensures.value c.keep_seal.ensures.kept c.keep_seal.ensures.undone in
     subst (Seals c.args.ask.now c.ask-result.result) (sym kept) (seals-asked c.args.ask.now c.ask-result.result c.self.inside.sealed)
+
+pub returns-clause-own : goal.returns-clause-own
+returns-clause-own g c = rw (← c.self.view_is) (λ apart.
+    let moved : c.last-after.result ≢ c.last-before.result = λ e. apart ((c.note_last.ensures.same e).1) in
+    let own = c.ask-result.ensures.own (λ e. moved (c.last-after.ensures.is ∙ e ∙ sym c.last-before.ensures.is)) in
+    let last = (c.note_last.ensures.moved moved).1 in
+    (omega (arith, c.between.ensures.entries, own.0, last, c.last-after.ensures.is), omega (arith, own.1, last, c.last-after.ensures.is)))
