@@ -85,12 +85,14 @@ impl Desk for StoreDesk {
         _upload: u64,
         _stage: MemStage,
         _digest: &Digest,
-        _now: u64,
+        now: u64,
     ) -> Result<u64, Refusal> {
+        self.moment = self.moment.max(now);
         Err(Refusal::Memory)
     }
 
-    fn drop_stage(&mut self, _upload: u64, _stage: MemStage, _now: u64) -> Result<(), Refusal> {
+    fn drop_stage(&mut self, _upload: u64, _stage: MemStage, now: u64) -> Result<(), Refusal> {
+        self.moment = self.moment.max(now);
         Err(Refusal::Memory)
     }
 
