@@ -65,9 +65,13 @@ route_error route.TagInvalid = plain 400 (codes "MANIFEST_INVALID")
 route_error route.DigestInvalid = plain 400 (codes "DIGEST_INVALID")
 route_error fault = unsupported
 
+-- a status alone
+abbrev pub blank : ℕ → Answer
+blank status = record { status = status; code = None; detail = []; length = None; media = None; digest = None; link = None; location = None; range = None; retry = None; body = None }
+
 -- this is a registry (OCI Distribution Specification 1.1, "Determining Support")
 abbrev pub base : Answer
-base = record { status = 200; code = None; detail = []; length = None; media = Some (codes "application/json"); digest = None; link = None; location = None; range = None; retry = None; body = Some (codes "{}") }
+base = record (blank 200) { media = Some (codes "application/json"); body = Some (codes "{}") }
 
 -- ---- what is done
 abbrev pub tag_of : Reference → Option (List ℕ)
@@ -117,18 +121,18 @@ abbrev pub location_of : Parcel → List ℕ
 location_of b = codes "/v2/" ++ b.name ++ path_of b.put ++ digest_text b.digest
 
 abbrev pub created : Parcel → Answer
-created b = record { status = 201; code = None; detail = []; length = Some 0; media = None; digest = Some b.digest; link = None; location = Some (location_of b); range = None; retry = None; body = None }
+created b = record (blank 201) { length = Some 0; digest = Some b.digest; location = Some (location_of b) }
 
 -- the type of content that has none of its own
 abbrev pub octets : List ℕ
 octets = codes "application/octet-stream"
 
 abbrev pub content : Digest → Option (List ℕ) → List ℕ → Answer
-content d media bytes = record { status = 200; code = None; detail = []; length = None; media = Some (unwrap_or media octets); digest = Some d; link = None; location = None; range = None; retry = None; body = Some bytes }
+content d media bytes = record (blank 200) { media = Some (unwrap_or media octets); digest = Some d; body = Some bytes }
 
 -- content of which the head alone is told
 abbrev pub content_head : Digest → Option (List ℕ) → ℕ → Answer
-content_head d media size = record { status = 200; code = None; detail = []; length = Some size; media = Some (unwrap_or media octets); digest = Some d; link = None; location = None; range = None; retry = None; body = None }
+content_head d media size = record (blank 200) { length = Some size; media = Some (unwrap_or media octets); digest = Some d }
 
 -- ---- answers
 abbrev pub push_answer : Parcel → Stop → Answer

@@ -4,7 +4,7 @@ ghost use Rattle.hb_text.specs.Digests.{digest_of, digest_text};
 ghost use Rattle.hb_records.specs.declared.puts.PutAsk.{PutAsk as Put};
 ghost use Rattle.std.specs.declared.option.Option.{Option};
 ghost use Rattle.hb_ops.specs.Errors.{digest_item, error_answer, number_item, plain};
-ghost use Rattle.hb_talk.specs.Tasks.{base, checked_answer, content, content_head, created, got_answer, location_of, manifest_error, octets, route_error, too_long, unsupported, wrong_digest};
+ghost use Rattle.hb_talk.specs.Tasks.{base, blank, checked_answer, content, content_head, created, got_answer, location_of, manifest_error, octets, route_error, too_long, unsupported, wrong_digest};
 ghost use Rattle.hb_upload.specs.Places.{Parcel};
 
 use hb_desk::{Answer, DetailItem, DetailList, DetailValue};
@@ -69,25 +69,33 @@ pub(crate) fn no_route(alloc: Global, fault: RouteFault) -> Result<Answer, Memor
     error(alloc, status, code, Listed::new(alloc), None)
 }
 
-/// 200: this is a registry (OCI Distribution Specification 1.1, "Determining Support").
-pub(crate) fn base(alloc: Global) -> Result<Answer, Memory>
-    ensures { IfOk result (λ a. a ≡ base) }
+// The status alone. It takes no memory.
+fn blank(alloc: Global, status: u16) -> Answer
+    ensures { result ≡ blank status }
 {
-    let media = Text::new(alloc, b"application/json")?;
-    let body = Text::new(alloc, b"{}")?;
-    Ok(Answer {
-        status: 200,
+    Answer {
+        status,
         code: None,
         detail: Listed::new(alloc),
         length: None,
-        media: Some(media),
+        media: None,
         digest: None,
         link: None,
         location: None,
         range: None,
         retry: None,
-        body: Some(body),
-    })
+        body: None,
+    }
+}
+
+/// 200: this is a registry (OCI Distribution Specification 1.1, "Determining Support").
+pub(crate) fn base(alloc: Global) -> Result<Answer, Memory>
+    ensures { IfOk result (λ a. a ≡ base) }
+{
+    let mut answer = blank(alloc, 200);
+    answer.media = Some(Text::new(alloc, b"application/json")?);
+    answer.body = Some(Text::new(alloc, b"{}")?);
+    Ok(answer)
 }
 
 /// 400 MANIFEST_INVALID: the body isn't a manifest. One that is too long is 413 SIZE_INVALID. Where memory was wanting for
@@ -131,19 +139,11 @@ pub(crate) fn location(
 pub(crate) fn created(alloc: Global, location: Text, digest: Digest) -> Answer
     ensures { (b : Parcel) → location ≡ location_of b → b.digest ≡ digest → result ≡ created b }
 {
-    Answer {
-        status: 201,
-        code: None,
-        detail: Listed::new(alloc),
-        length: Some(0),
-        media: None,
-        digest: Some(digest),
-        link: None,
-        location: Some(location),
-        range: None,
-        retry: None,
-        body: None,
-    }
+    let mut answer = blank(alloc, 201);
+    answer.length = Some(0);
+    answer.digest = Some(digest);
+    answer.location = Some(location);
+    answer
 }
 
 // The type of content, of which a blob has none of its own.
@@ -165,20 +165,11 @@ fn content(
 ) -> Result<Answer, Memory>
     ensures { IfOk result (λ a. a ≡ content digest media bytes) }
 {
-    let media = media_or_octets(alloc, media)?;
-    Ok(Answer {
-        status: 200,
-        code: None,
-        detail: Listed::new(alloc),
-        length: None,
-        media: Some(media),
-        digest: Some(digest),
-        link: None,
-        location: None,
-        range: None,
-        retry: None,
-        body: Some(bytes),
-    })
+    let mut answer = blank(alloc, 200);
+    answer.media = Some(media_or_octets(alloc, media)?);
+    answer.digest = Some(digest);
+    answer.body = Some(bytes);
+    Ok(answer)
 }
 
 /// What a get is answered.
@@ -204,20 +195,11 @@ fn content_head(
 ) -> Result<Answer, Memory>
     ensures { IfOk result (λ a. a ≡ content_head digest media size) }
 {
-    let media = media_or_octets(alloc, media)?;
-    Ok(Answer {
-        status: 200,
-        code: None,
-        detail: Listed::new(alloc),
-        length: Some(size),
-        media: Some(media),
-        digest: Some(digest),
-        link: None,
-        location: None,
-        range: None,
-        retry: None,
-        body: None,
-    })
+    let mut answer = blank(alloc, 200);
+    answer.length = Some(size);
+    answer.media = Some(media_or_octets(alloc, media)?);
+    answer.digest = Some(digest);
+    Ok(answer)
 }
 
 /// What a check is answered.
