@@ -3,6 +3,7 @@ pub mod Comparisons
 pub mod Controls
 pub mod Endings
 pub mod Fronts
+pub mod Inserting
 pub mod Matching
 pub mod OneRoute
 pub mod Parameters

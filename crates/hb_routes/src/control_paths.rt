@@ -1,5 +1,5 @@
 //! Paths under `/harbor/`, which `matchit` matches.
-ghost use Rattle.std.specs.Prelude.{◌≡◌, IfOk, option_map};
+ghost use Rattle.std.specs.Prelude.{◌≡◌, IfOk, IfErr, option_map};
 ghost use Rattle.hb_routes.specs.Resources.{control_resource};
 ghost use Rattle.hb_routes.specs.ControlRows.{control_rows};
 ghost use Rattle.hb_routes.specs.Meanings.{meaning_of};
@@ -17,9 +17,10 @@ pub enum Control {
     Job,
 }
 
-/// Matches control paths.
+/// Matches control paths. It fails for want of memory alone: its patterns are well formed and don't conflict.
 pub fn control_matcher(alloc: Global) -> Result<Matcher<Control>, InsertError>
-    ensures { IfOk result (λ made. made ≡ control_rows) }
+    ensures rows { IfOk result (λ made. made ≡ control_rows) }
+    ensures memory { IfErr result (λ fault. fault ≡ InsertError.OutOfMemory) }
 {
     let mut matcher = Matcher::new(alloc);
     matcher.insert("/harbor/projects/{name}", Control::Project)?;

@@ -13,7 +13,7 @@ use crate::registry_routes::{base, blob, manifest, tags, upload, uploads};
 use crate::resources::Resource;
 use crate::routes::Route;
 use hb_text::Memory;
-use matchit::Router as Matcher;
+use matchit::{InsertError, Router as Matcher};
 use std::alloc::Global;
 use std::marker::Model;
 
@@ -58,11 +58,12 @@ fn serve(
 }
 
 impl Router {
-    /// A router. All routers read alike.
+    /// A router. All routers read alike. It answers `Memory` for want of memory alone.
     pub fn new(alloc: Global) -> Result<Router, Memory> {
         match control_matcher(alloc) {
             Ok(controls) => Ok(Router { controls }),
-            Err(_) => Err(Memory),
+            Err(InsertError::OutOfMemory) => Err(Memory),
+            Err(_) => unreachable!(),
         }
     }
 
