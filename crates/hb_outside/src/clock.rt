@@ -1,19 +1,21 @@
-ghost use Rattle.std.specs.Prelude.{◌≡◌, ◌+◌, ◌-◌, ◌^◌, ℕ, min, Some, IfSome};
+ghost use Rattle.std.specs.Prelude.{◌≡◌, ◌+◌, ◌-◌, ◌*◌, ◌^◌, ℕ, min, suc, Some, IfSome};
 ghost use Rattle.std.specs.declared.option.Option.{Option};
+ghost use Rattle.hb_outside.specs.Clocks.{behind};
 
 /// What time it is, in seconds since 1970-01-01T00:00:00Z. A clock has no faults, and may go back or
 /// stand still.
 pub trait Clock {
-    /// What the next reading gives, where the clock tells it.
-    ghost upcoming: { Self → Option ℕ };
+    /// What its readings give from now on, counted from 0, where the clock tells it.
+    ghost readings: { Self → Option (ℕ → ℕ) };
 
     /// A reading.
     fn now(&mut self) -> u64
-        ensures { IfSome (upcoming self.old) (λ moment. result ≡ moment) };
+        ensures reading { IfSome (readings self.old) (λ reading. result ≡ reading 0) }
+        ensures goes_on { readings self.new ≡ behind (readings self.old) };
 
     /// A further clock, for another worker, which reads on as this one would.
     fn twin(&self) -> Self
-        ensures { upcoming result ≡ upcoming self.now };
+        ensures { readings result ≡ readings self.now };
 }
 
 /// A clock that goes on by the same step at each reading, and stands still at the end of its type.
@@ -34,11 +36,14 @@ impl StepClock {
 }
 
 impl Clock for StepClock {
-    ghost upcoming = { λ c. Some c.next };
+    ghost use Rattle.hb_outside.specs.Clocks.{steps_of};
+
+    ghost readings = { λ c. Some (steps_of c.next c.step) };
 
     fn now(&mut self) -> u64
-        ensures reading { IfSome (Some self.old.next) (λ moment. result ≡ moment) }
-        ensures goes_on { self.new ≡ record self.old { next = min (self.old.next + self.old.step) (2 ^ 64 - 1) } }
+        ensures reading { IfSome (Some (steps_of self.old.next self.old.step)) (λ reading. result ≡ reading 0) }
+        ensures goes_on { Some (steps_of self.new.next self.new.step) ≡ behind (Some (steps_of self.old.next self.old.step)) }
+        ensures next { self.new ≡ record self.old { next = min (self.old.next + self.old.step) (2 ^ 64 - 1) } }
     {
         let now = self.next;
         self.next = now.saturating_add(self.step);
@@ -46,7 +51,7 @@ impl Clock for StepClock {
     }
 
     fn twin(&self) -> StepClock
-        ensures upcoming { Some result.next ≡ Some self.now.next }
+        ensures readings { Some (steps_of result.next result.step) ≡ Some (steps_of self.now.next self.now.step) }
         ensures same { result ≡ self.now }
     {
         *self

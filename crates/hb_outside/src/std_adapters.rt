@@ -4,6 +4,7 @@ ghost use Rattle.std.specs.Prelude.{◌≡◌, ◌<◌, ◌≤◌, ℕ, length, 
 ghost use Rattle.std.specs.Io.{ReadsAtMost};
 ghost use Rattle.std.specs.Io.KnownBytes.{ReadConsumes, Appends};
 ghost use Rattle.hb_outside.specs.Causes.{HasCause, CountsFault};
+ghost use Rattle.hb_outside.specs.Clocks.{behind};
 ghost use Rattle.hb_outside.specs.Streams.{ReadGives, ReadEnds, WriteAdds};
 
 use crate::clock::Clock;
@@ -161,10 +162,11 @@ impl<'a, R: std::time::Clock> StdClock<'a, R> {
 }
 
 impl<'a, R: std::time::Clock> Clock for StdClock<'a, R> {
-    ghost upcoming = { λ _. None };
+    ghost readings = { λ _. None };
 
     fn now(&mut self) -> u64
-        ensures reading { IfSome None (λ moment. result ≡ moment) }
+        ensures reading { IfSome None (λ (reading : ℕ → ℕ). result ≡ reading 0) }
+        ensures goes_on { None ≡ behind None }
         ensures last { self.new.last ≡ result }
     {
         if let Ok(time) = SystemTime::now(self.runtime) {
