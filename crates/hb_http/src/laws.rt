@@ -7,7 +7,7 @@ ghost use Rattle.hb_http.specs.Chunks.{IsChunkedBody, NeverIsChunkedBody};
 ghost use Rattle.hb_http.specs.declared.chunk_places.ChunkPlace.{ChunkPlace};
 ghost use Rattle.hb_http.specs.Framing.{HasLength, IsChunked};
 ghost use Rattle.hb_http.specs.Heads.{IsHead, HasNoHead, IsMalformed, NeverHasHead, HasTooManyHeaders, IsHeadTooLong, window};
-ghost use Rattle.hb_http.specs.declared.TheConstants.{MAX_HEAD};
+ghost use Rattle.hb_http.specs.declared.TheConstants.{MAX_CHUNK_LINE, MAX_HEAD, MAX_HEADERS, MAX_PIECE, ROOM};
 ghost use Rattle.hb_http.specs.Parts.{Gives, HoldsNoPart, IsBad};
 ghost use Rattle.hb_http.specs.Readings.{AreRequests, Given, HasRead, IsBodyOf, IsBodyText, all_given};
 ghost use Rattle.hb_http.specs.Requests.{Request, HasNoRequest, RequestsOf, request_text};
@@ -117,4 +117,14 @@ pub fn one_part()
 /// Bytes for which a session answers `Bad` stay so, whatever follows.
 pub fn faults_stay()
     ensures { (place : Place) (bytes more : List ℕ) → IsBad place bytes → IsBad place (bytes ++ more) }
+{}
+
+/// The limits: how many bytes a head has at most and how many headers, how many bytes a chunk's line and the lines at the end of
+/// a body in chunks, a piece of a body that is given at once, and what waits.
+pub fn limits()
+    ensures head { MAX_HEAD ≡ 65536 }
+    ensures headers { MAX_HEADERS ≡ 100 }
+    ensures chunk_line { MAX_CHUNK_LINE ≡ 65536 }
+    ensures piece { MAX_PIECE ≡ 65536 }
+    ensures room { ROOM ≡ 131072 }
 {}

@@ -1,6 +1,6 @@
 ghost use Rattle.std.specs.Prelude.{◌≡◌};
 
-use crate::laws::{Reading, front_stays, no_request, one_framing, one_front, one_reading};
+use crate::laws::{Reading, front_stays, limits, no_request, one_framing, one_front, one_reading};
 use crate::{
     AnswerHead, Framing, Front, MAX_HEAD, MAX_HEADERS, framing_of, has_phrase, is_last, read_head,
     write_head,
@@ -216,6 +216,7 @@ fn laws_hold() {
     one_reading::<Bare>();
     no_request::<Bare>();
     one_framing();
+    limits();
     one_front();
     front_stays();
 }

@@ -2,7 +2,7 @@
 //!
 //! Each function is handed the rows that its entry reads, wherever they were found, and gives the changes of
 //! `specs/Changes` for every tables that have these rows. [`changes_of`] looks them up in [`Rows`].
-ghost use Rattle.std.specs.Prelude.{◌≡◌, ◌<◌, ◌+◌, ◌^◌, ◌++◌, [], ◌∷◌, ℕ, not, List, is_some, IfOk, IfSome, OnOk};
+ghost use Rattle.std.specs.Prelude.{◌≡◌, ◌<◌, ◌+◌, ◌^◌, ◌++◌, [], ◌∷◌, ℕ, not, List, is_some, IfOk, IfSome, OnErr, OnOk};
 ghost use Rattle.std.specs.List.{flat_map};
 ghost use Rattle.std.specs.Option.{option_copied};
 ghost use Rattle.hb_text.specs.Names.{project_of};
@@ -265,7 +265,8 @@ pub fn tag_put(
     digest: &Digest,
     tag: &Option<Tag>,
 ) -> Result<(), Memory>
-    ensures { OnOk result (made.new ≡ made.old ++ tag_changes stamp.number stamp.moment name.now digest.now tag.now) }
+    ensures made { OnOk result (made.new ≡ made.old ++ tag_changes stamp.number stamp.moment name.now digest.now tag.now) }
+    ensures err { OnErr result (made.new ≡ made.old) }
 {
     let Some(tag) = tag else {
         return Ok(());

@@ -1,6 +1,6 @@
 //! The laws of the definitions that stand here. Each function does nothing: its contract is the law.
 
-ghost use Rattle.std.specs.Prelude.{◌≡◌, ◌↔◌, ℕ, List, [], ◌∷◌, Some, None, true, false, codes, IsTrue};
+ghost use Rattle.std.specs.Prelude.{◌≡◌, ◌↔◌, ◌^◌, ℕ, List, [], ◌∷◌, Some, None, true, false, codes, IsTrue};
 ghost use Rattle.std.specs.Ordering.{nat_cmp};
 ghost use Rattle.hb_text.specs.Orders.{IsKeyOrder};
 ghost use Rattle.hb_records.specs.Orders.{named_digest_cmp, named_tag_cmp, job_digest_cmp, job_tag_cmp};
@@ -11,6 +11,9 @@ ghost use Rattle.hb_records.specs.PatternTexts.{parts_of, matches_text};
 ghost use Rattle.hb_records.specs.Retention.{keeps};
 ghost use Rattle.hb_records.specs.Examples.{tag_pushed, five_tags, rule_by, no_rules};
 ghost use Rattle.hb_records.specs.declared.rules.Template.TheVariants.{PushedLatest, PulledLatest, PushedDays, PulledDays};
+ghost use Rattle.hb_records.specs.declared.entries.TheConstants.{MAX_ENTRIES, MAX_MOMENT, WINDOW};
+ghost use Rattle.hb_records.specs.declared.pages.TheConstants.{MOST_ROWS};
+ghost use Rattle.hb_records.specs.declared.rules.TheConstants.{MOST_RULES};
 
 use crate::keys::Key;
 
@@ -61,4 +64,14 @@ pub fn retention_by_example()
     ensures never_pulled { keeps (rule_by (PulledDays 100)) five_tags 1000010 (tag_pushed 5) ≡ false }
     ensures lesser_tag { keeps (rule_by (PulledLatest 1)) five_tags 1000010 (tag_pushed 1) ≡ true }
     ensures no_rule { keeps no_rules five_tags 1000010 (tag_pushed 1) ≡ true }
+{}
+
+/// The limits: the last moment, which is the last second of the year 9998; the most entries of an audit; the window of a grace, in
+/// seconds; the most rows of a page; and the most rules of a project, of each sort.
+pub fn limits()
+    ensures moment { MAX_MOMENT ≡ 253370764799 }
+    ensures entries { MAX_ENTRIES ≡ 2 ^ 62 }
+    ensures window { WINDOW ≡ 7200 }
+    ensures rows { MOST_ROWS ≡ 256 }
+    ensures rules { MOST_RULES ≡ 15 }
 {}

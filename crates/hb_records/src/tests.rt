@@ -1,7 +1,7 @@
 //! Copies of every record, and keys in their order.
 
 use crate::laws::{
-    keys_are_in_total_order, keys_compare_as_defined, patterns_by_example,
+    keys_are_in_total_order, keys_compare_as_defined, limits, patterns_by_example,
     patterns_match_whole_texts, retention_by_example,
 };
 use crate::{
@@ -363,6 +363,7 @@ fn batches_are_copied(rt: HostRuntime) -> Result<(), Fail> {
 fn keys_stand_in_order(rt: HostRuntime) -> Result<(), Fail> {
     let alloc = rt.alloc();
     keys_are_in_total_order();
+    limits();
     keys_compare_as_defined();
     patterns_match_whole_texts();
     patterns_by_example();

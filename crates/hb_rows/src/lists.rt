@@ -30,6 +30,8 @@ pub struct Lists {
 }
 
 impl Lists {
+    /// Tables without a row, as before the first start. No list asks for
+    /// memory until its first row.
     pub fn new(alloc: Global) -> Lists
         ensures { tables_of result ≡ empty_tables }
     {

@@ -1,8 +1,9 @@
-ghost use Rattle.std.specs.Prelude.{◌≡◌, ◌≤◌, ◌+◌, ◌<◌, ◌++◌, ℕ, length, take, drop};
+ghost use Rattle.std.specs.Prelude.{◌≡◌, ◌≤◌, ◌+◌, ◌<◌, ◌-◌, ◌++◌, ℕ, length, min, take, drop};
 
 // Copies the bytes from a place on, as many as there are and fit.
 pub(crate) fn copy_from(bytes: &[u8], place: usize, into: &mut [u8]) -> usize
     requires { place ≤ length bytes.now }
+    ensures amount { result ≡ min (length into.old) (length bytes.now - place) }
     ensures fits { result ≤ length into.old }
     ensures within { place + result ≤ length bytes.now }
     ensures some { place < length bytes.now → 0 < length into.old → 0 < result }

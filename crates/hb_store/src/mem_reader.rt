@@ -1,4 +1,4 @@
-ghost use Rattle.std.specs.Prelude.{◌≡◌, ◌≤◌, ◌-◌, ◌↔◌, ℕ, [], length, take, drop, Some, IsErr};
+ghost use Rattle.std.specs.Prelude.{◌≡◌, ◌≤◌, ◌-◌, ◌↔◌, ℕ, [], length, min, take, drop, Some, IfOk, IsErr};
 ghost use Rattle.hb_outside.specs.Scripts.{IsNext};
 ghost use Rattle.hb_store.specs.Bytes.{ReaderReads, ReaderCount};
 ghost use Rattle.hb_store.specs.Causes.{StoreCause};
@@ -51,7 +51,8 @@ impl Reader for MemReader {
         ensures count { ReaderCount (length (bytes_left self.old)) (length (bytes_left self.new)) (length into.old) result }
         ensures cause { StoreCause self.old.script.faults self.new.script.faults result }
 
-        // It fails exactly where the script says.
+        // It fails exactly where the script says, and else gives as much as there is and fits.
+        ensures amount { IfOk result (λ n. n ≡ min (length into.old) (length self.old.bytes.items - self.old.place)) }
         ensures failed { IsErr result ↔ IsNext self.old.script }
         ensures counted { Counted self.old.script self.new.script result }
     {

@@ -1,4 +1,4 @@
-ghost use Rattle.std.specs.Prelude.{◌≡◌, ◌≤◌, ◌+◌, ◌++◌, ◌↔◌, ℕ, length, take, drop, Some, IfOk, OnOk, OnErr, IsErr, IsErrOf};
+ghost use Rattle.std.specs.Prelude.{◌≡◌, ◌≤◌, ◌+◌, ◌-◌, ◌++◌, ◌↔◌, ℕ, length, min, take, drop, Some, IfOk, OnOk, OnErr, IsErr, IsErrOf};
 ghost use Rattle.hb_outside.specs.Scripts.{IsNext};
 ghost use Rattle.hb_store.specs.Bytes.{Appends, StageReads, StageCount};
 ghost use Rattle.hb_store.specs.Causes.{StoreCause};
@@ -80,7 +80,8 @@ impl Stage for MemStage {
         ensures same { (Some self.new.bytes.items ≡ Some self.old.bytes.items) × (self.new.upload ≡ self.old.upload) × (length self.new.bytes.items ≡ length self.old.bytes.items) }
         ensures cause { StoreCause self.old.script.faults self.new.script.faults result }
 
-        // It fails exactly where the script says.
+        // It fails exactly where the script says, and else gives as much as there is and fits.
+        ensures amount { IfOk result (λ n. n ≡ min (length into.old) (length self.old.bytes.items - place)) }
         ensures failed { IsErr result ↔ IsNext self.old.script }
         ensures counted { Counted self.old.script self.new.script result }
     {
