@@ -198,6 +198,7 @@ causes-after own own' old mid new now last last' sealed sealed' call outcome kee
   rises = omega (arith, between.moment, causes.rises);
   sealed = keeps;
   moment = causes.moment;
+  clock = λ alone. cc alone;
   told = refl;
   sole = refl;
   told_bytes = causes.told_bytes ∙ between.told_bytes;

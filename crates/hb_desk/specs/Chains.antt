@@ -1,24 +1,24 @@
--- The events of one caller, one after another: what it saw before each and behind it. Between two of them others may have
--- acted.
+-- The events of one caller, one after another: what it saw before each and behind it, and what its clock read for it. Between
+-- two of them others may have acted.
 use Rattle.std.specs.Prelude.{◌≡◌, ◌≤◌, ◌^◌, ℕ, suc, List, [], ◌∷◌, length, Option, Err, IfSome, IsSomeAnd}
 use Rattle.std.specs.List.{AllByRecursion}
 use Rattle.hb_records.specs.Entries.{AuditEntry}
-use Rattle.hb_desk.specs.Clause.{View}
 use Rattle.hb_desk.specs.Events.{Event, entry_of, happens}
-use Rattle.hb_desk.specs.Points.{IsBetween, Point}
+use Rattle.hb_desk.specs.Points.{IsFrom, Point}
 use Rattle.hb_desk.specs.Prefix.{GoesOn}
 use Rattle.hb_desk.specs.Reply.{reply}
 use Rattle.hb_desk.specs.State.{State}
+use Rattle.hb_desk.specs.Timed.{HappensBetween, Timed}
 use Rattle.hb_desk.specs.declared.refusals.Refusal.{Refusal}
 use Rattle.hb_desk.specs.declared.refusals.Refusal.TheVariants.{Spent}
 
--- the points, the newest first, lead from one view to the other
-abbrev pub Chain : View → List Point → View → Type 0
+-- the points, the newest first, lead from one to the other
+abbrev pub Chain : Timed → List Point → Timed → Type 0
 Chain start [] now = start ≡ now
-Chain start (p ∷ points) now = (mid : View) × Chain start points mid × IsBetween p mid now
+Chain start (p ∷ points) now = (mid : Timed) × Chain start points mid × HappensBetween p mid now
 
 -- the events of an operation, and what it became by them
-pub record Driven (Streams : Option Refusal → Type 0) (start now : View) (Went : List Point → Type 0) : Type 0 where
+pub record Driven (Streams : Option Refusal → Type 0) (start now : Timed) (Went : List Point → Type 0) : Type 0 where
   pub points : List Point
   pub chain : Chain start points now
   pub streams : AllByRecursion (λ p. Streams p.fault) points
@@ -36,3 +36,8 @@ pub record Stands (audit : List AuditEntry) (mine : ℕ → Type 0) (ev : Event)
 -- its point tells where it stood, and it stands behind that
 abbrev pub StandsBehind : List AuditEntry → (ℕ → Type 0) → Point → Type 0
 StandsBehind audit mine p = IsSomeAnd p.state (Stands audit mine p.event)
+
+-- the events of these points, the newest first, stood at these readings or later, in their order
+abbrev pub AreTimely : (ℕ → ℕ) → List Point → Type 0
+AreTimely reading [] = Unit {0}
+AreTimely reading (p ∷ points) = IsFrom (reading (length points)) p × AreTimely reading points

@@ -1,5 +1,5 @@
 -- The clause of every event of a desk: what contracts see of a desk, and what one event makes of it.
-use Rattle.std.specs.Prelude.{◌≡◌, ◌≤◌, ◌<◌, ◌⊎◌, ◌^◌, ℕ, suc, min, Bool, true, false, List, [], ◌∷◌, length, Option, Some, is_some, nat_eq, option_map, IfSome, Result, Ok, Err}
+use Rattle.std.specs.Prelude.{◌≡◌, ◌≤◌, ◌<◌, ◌⊎◌, ◌^◌, ℕ, suc, min, max, Bool, true, false, not, ◌&&◌, ◌||◌, List, [], ◌∷◌, length, Option, Some, is_some, nat_eq, option_map, IfSome, Result, Ok, Err}
 use Rattle.hb_outside.specs.Causes.{Rose}
 use Rattle.hb_records.specs.Entries.{LAST_MOMENT}
 use Rattle.hb_records.specs.declared.notes.Sealed.{Sealed}
@@ -47,14 +47,24 @@ is_fault seat (Err Storage) = true
 is_fault seat (Err Spent) = seat
 is_fault seat outcome = false
 
--- The event wasn't made, or it can't be told whether it was. A stage that is handed in is given up by its event, whatever
--- is answered: there no memory is taken before it.
+abbrev pub is_memory : Outcome → Bool
+is_memory (Err Memory) = true
+is_memory outcome = false
+
+abbrev pub is_spent : Outcome → Bool
+is_spent (Err Spent) = true
+is_spent outcome = false
+
+-- the call gives up a stage, whatever it is answered
+abbrev pub gives_up_stage : Call → Bool
+gives_up_stage (StagePlaced upload d) = true
+gives_up_stage (StageDropped upload handed) = handed
+gives_up_stage call = false
+
+-- The event wasn't made, or it can't be told whether it was: memory was wanting before it, where it gives up no stage, or its
+-- seat is spent.
 abbrev pub may_be_unmade : Bool → Call → Outcome → Bool
-may_be_unmade seat (StagePlaced upload d) (Err Memory) = false
-may_be_unmade seat (StageDropped upload true) (Err Memory) = false
-may_be_unmade seat call (Err Memory) = true
-may_be_unmade seat call (Err Spent) = seat
-may_be_unmade seat call outcome = false
+may_be_unmade seat call outcome = (is_memory outcome && not (gives_up_stage call)) || (is_spent outcome && seat)
 
 -- the outcome is the reply, or a fault
 abbrev pub Fits : Bool → Event → State → Type 0
@@ -99,6 +109,8 @@ pub record Causes (old new : View) (now : ℕ) (call : Call) (outcome : Outcome)
   pub rises : old.moment ≤ new.moment
   pub sealed : (u : ℕ) (x : Sealed) → moves_seal u call outcome ≡ false → sealed_at u old.sealed ≡ Some x → sealed_at u new.sealed ≡ Some x
   pub moment : may_be_unmade new.spent call outcome ≡ false → min now LAST_MOMENT ≤ new.moment
+  -- where nobody else acts, the moment is no later than the one that was handed, or the last event's
+  pub clock : old.sole ≡ true → new.moment ≤ max old.moment (min now LAST_MOMENT)
   pub told : new.events ≡ with_event (record { call = call; moment = new.moment; outcome = outcome }) old.events
   pub sole : new.sole ≡ old.sole
   pub told_bytes : new.told_bytes ≡ old.told_bytes

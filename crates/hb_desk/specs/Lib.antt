@@ -12,4 +12,6 @@ pub mod ProjectVersions
 pub mod Refusing
 pub mod Reply
 pub mod State
+pub mod StoreCalls
+pub mod Timed
 pub mod AskedPoints

@@ -1,9 +1,10 @@
 -- The points of an operation's events: where each stood, and what it was. The newest stands first.
-use Rattle.std.specs.Prelude.{◌≡◌, ◌≤◌, ◌⊎◌, ◌^◌, ℕ, true, List, ◌∷◌, Option, Some, None, Err, IfSome}
+use Rattle.std.specs.Prelude.{◌≡◌, ◌≤◌, ◌⊎◌, ◌^◌, ℕ, min, max, true, false, List, ◌∷◌, Option, Some, None, Err, IfSome}
 use Rattle.hb_outside.specs.Causes.{Rose}
 use Rattle.hb_store.specs.Causes.{SomeRose}
 use Rattle.hb_desk.specs.Calls.{Call, Outcome}
-use Rattle.hb_desk.specs.Clause.{View, EventFrom, with_event}
+use Rattle.hb_records.specs.Entries.{LAST_MOMENT}
+use Rattle.hb_desk.specs.Clause.{View, EventFrom, may_be_unmade, with_event}
 use Rattle.hb_desk.specs.Events.{Event, after}
 use Rattle.hb_desk.specs.State.{State}
 use Rattle.hb_desk.specs.declared.refusals.Refusal.{Refusal}
@@ -77,10 +78,20 @@ abbrev pub IsStreamFault : (Stage Reader : Type 0) → (Stage → ℕ) → (Read
 IsStreamFault Stage Reader stage_faults reader_faults fault =
     IfSome fault (λ refusal. (refusal ≡ Memory) ⊎ ((refusal ≡ Storage) × (SomeRose Stage stage_faults ⊎ SomeRose Reader reader_faults)))
 
--- One event of a desk, whose point joins those of an operation. Streams says of a call on the stage or the reader that it
--- gave what that may be refused for.
-pub record Steps {O : Type 0} (Streams : Option Refusal → Type 0) (old new : View) (went went' : O → List Point → Type 0) : Type 0 where
+-- the event stood at this moment or later, cut at the last that can be printed; unless it wasn't made
+abbrev pub IsFrom : ℕ → Point → Type 0
+IsFrom now p = may_be_unmade true p.event.call p.event.outcome ≡ false → min now LAST_MOMENT ≤ p.event.moment
+
+-- It stood at the moment that it was handed or later; where nobody else acts, no later than that or the last event's.
+pub record IsTimely (now : ℕ) (old : View) (p : Point) : Type 0 where
+  pub from : IsFrom now p
+  pub to : old.sole ≡ true → p.event.moment ≤ max old.moment (min now LAST_MOMENT)
+
+-- One event of a desk, handed this moment, whose point joins those of an operation. Streams says of a call on the stage or the
+-- reader that it gave what that may be refused for.
+pub record Steps {O : Type 0} (Streams : Option Refusal → Type 0) (now : ℕ) (old new : View) (went went' : O → List Point → Type 0) : Type 0 where
   pub point : Point
   pub between : IsBetween point old new
+  pub timely : IsTimely now old point
   pub stream : Streams point.fault
   pub goes : (begun : O) (points : List Point) → went begun points → went' begun (point ∷ points)

@@ -221,7 +221,7 @@ impl<D: Desk, X: Others<D>> Desk for Alone<D, X> {
 
     ghost one_length = { λ a. D.one_length a.desk };
 
-    ghost no_stage = { λ a upload. D.no_stage a.desk upload };
+    ghost contents = { λ a. D.contents a.desk };
 
     fn ask(&mut self, ask: &Ask, now: u64) -> Result<Told, Refusal> {
         let seal = seal_of(ask);

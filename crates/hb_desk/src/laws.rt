@@ -1,11 +1,11 @@
 //! What holds of replies and of events, whatever desk answers. Each function does nothing: its contract is the law.
-ghost use Rattle.std.specs.Prelude.{◌≡◌, ◌≤◌, ◌^◌, ℕ, suc, true, false, List, length, Some};
+ghost use Rattle.std.specs.Prelude.{◌≡◌, ◌≤◌, ◌^◌, ℕ, suc, true, false, List, length, Some, IfSome};
 ghost use Rattle.std.specs.List.{AllByRecursion};
 ghost use Rattle.hb_records.specs.declared.entries.EntryKind.{EntryKind};
 ghost use Rattle.hb_records.specs.declared.notes.Sealed.{Sealed};
 ghost use Rattle.hb_model.specs.History.{History, Legal, latest};
 ghost use Rattle.hb_desk.specs.Calls.{Call, Outcome};
-ghost use Rattle.hb_desk.specs.Chains.{Chain, IsSpentByReply, StandsBehind};
+ghost use Rattle.hb_desk.specs.Chains.{AreTimely, Chain, IsSpentByReply, StandsBehind};
 ghost use Rattle.hb_desk.specs.Clause.{AllFit, Between, Causes, EventOf, View, moves_seal};
 ghost use Rattle.hb_desk.specs.Events.{Event, after};
 ghost use Rattle.hb_desk.specs.Keeping.{AsksKeepWhole};
@@ -14,6 +14,7 @@ ghost use Rattle.hb_desk.specs.Points.{Point};
 ghost use Rattle.hb_desk.specs.Prefix.{GoesOn};
 ghost use Rattle.hb_desk.specs.Reply.{reply};
 ghost use Rattle.hb_desk.specs.State.{State};
+ghost use Rattle.hb_desk.specs.Timed.{Timed};
 
 /// The entry that a reply makes is legal as the next one, at a moment that doesn't fall.
 pub fn what_is_replied_is_legal()
@@ -60,14 +61,20 @@ pub fn what_others_do_adds_up()
 /// What a caller had seen stays. So does what its events made: behind each point stands what happened there, and an
 /// entry of it is among the caller's own.
 pub fn points_stand_in_what_was_seen()
-    ensures { (start now : View) (points : List Point) (s t : State) → Chain start points now
-        → start.state ≡ Some s → now.state ≡ Some t
-        → GoesOn s.audit t.audit × AllByRecursion (StandsBehind t.audit (λ n. now.mine n ≡ true)) points }
+    ensures { (start now : Timed) (points : List Point) (s t : State) → Chain start points now
+        → start.view.state ≡ Some s → now.view.state ≡ Some t
+        → GoesOn s.audit t.audit × AllByRecursion (StandsBehind t.audit (λ n. now.view.mine n ≡ true)) points }
 {}
 
 /// A caller whose seat isn't spent at the end was refused as spent only where the audit was full; by the reply, where what
 /// was seen is told.
 pub fn only_a_full_audit_is_spent()
-    ensures { (start now : View) (points : List Point) → Chain start points now → now.spent ≡ false
-        → AllByRecursion (IsSpentByReply now.entries) points }
+    ensures { (start now : Timed) (points : List Point) → Chain start points now → now.view.spent ≡ false
+        → AllByRecursion (IsSpentByReply now.view.entries) points }
+{}
+
+/// Each event of a caller stood at the reading of its clock that was its turn, or later; unless it wasn't made.
+pub fn events_stand_at_readings_of_the_clock()
+    ensures { (start now : Timed) (points : List Point) → Chain start points now
+        → IfSome start.readings (λ reading. AreTimely reading points) }
 {}

@@ -26,9 +26,10 @@ pub use asks::Ask;
 pub use desk::Desk;
 pub use gave::{Opened, Staged};
 pub use laws::{
-    asks_keep_the_registry_whole, events_keep_a_history, one_event_is_what_others_may_do,
-    only_a_full_audit_is_spent, others_may_rest, points_stand_in_what_was_seen,
-    what_is_replied_is_legal, what_others_do_adds_up, what_was_seen_stays,
+    asks_keep_the_registry_whole, events_keep_a_history, events_stand_at_readings_of_the_clock,
+    one_event_is_what_others_may_do, only_a_full_audit_is_spent, others_may_rest,
+    points_stand_in_what_was_seen, what_is_replied_is_legal, what_others_do_adds_up,
+    what_was_seen_stays,
 };
 pub use ops::{Op, Progress, drive};
 pub use refusals::Refusal;

@@ -2,6 +2,7 @@ ghost use Rattle.std.specs.Prelude.{◌≡◌, ◌<◌, ◌↔◌, ℕ, Bool, Li
 ghost use Rattle.hb_desk.specs.Chains.{Driven};
 ghost use Rattle.hb_desk.specs.Clause.{View};
 ghost use Rattle.hb_desk.specs.Points.{IsStreamFault, Point, Steps, Moves};
+ghost use Rattle.hb_desk.specs.Timed.{timed};
 
 use crate::desk::Desk;
 use hb_outside::Clock;
@@ -35,19 +36,19 @@ pub trait Op<D: Desk> {
     /// What it began as, and its points since, the newest first.
     ghost since: { Self → Self → List Point → Type 0 };
 
-    /// Makes the next event.
+    /// Makes the next event, at this moment or later.
     fn step(&mut self, desk: &mut D, now: u64) -> Progress
         requires ready { done self.old ≡ false }
         requires fed { wants self.old ≡ false }
         requires fits { fits self.old (D.view desk.old) }
-        ensures event { Steps (IsStreamFault D.Stage D.Reader D.Stage.faults D.Reader.faults) (D.view desk.old) (D.view desk.new) (λ begun points. since begun self.old points) (λ begun points. since begun self.new points) }
+        ensures event { Steps (IsStreamFault D.Stage D.Reader D.Stage.faults D.Reader.faults) now (D.view desk.old) (D.view desk.new) (λ begun points. since begun self.old points) (λ begun points. since begun self.new points) }
         ensures moves { Moves (D.view desk.old) (D.view desk.new) }
         ensures done { result ≡ Progress.Done ↔ (done self.new ≡ true) }
         ensures more { result ≡ Progress.More → left self.new (D.view desk.new).entries < left self.old (D.view desk.old).entries }
         ensures fits { fits self.new (D.view desk.new) };
 }
 
-/// Makes the events of an operation that wants no body, to its end.
+/// Makes the events of an operation that wants no body, to its end, each at the next reading of the clock.
 pub fn drive<D: Desk, C: Clock, O: Op<D>>(desk: &mut D, clock: &mut C, op: &mut O)
     requires ready { O.done op.old ≡ false }
     requires fed { (x : O) → O.wants x ≡ false }
@@ -55,7 +56,7 @@ pub fn drive<D: Desk, C: Clock, O: Op<D>>(desk: &mut D, clock: &mut C, op: &mut 
     ensures done { O.done op.new ≡ true }
     ensures fits { O.fits op.new (D.view desk.new) }
     ensures moves { Moves (D.view desk.old) (D.view desk.new) }
-    ensures driven { (begun : O) → O.since begun op.old [] → Driven (IsStreamFault D.Stage D.Reader D.Stage.faults D.Reader.faults) (D.view desk.old) (D.view desk.new) (O.since begun op.new) }
+    ensures driven { (begun : O) → O.since begun op.old [] → Driven (IsStreamFault D.Stage D.Reader D.Stage.faults D.Reader.faults) (timed (D.view desk.old) (C.readings clock.old)) (timed (D.view desk.new) (C.readings clock.new)) (O.since begun op.new) }
 {
     loop {
         match op.step(desk, clock.now()) {

@@ -2,9 +2,9 @@
 
 use crate::{
     Ask, Desk, Op, Progress, Refusal, Told, asks_keep_the_registry_whole, events_keep_a_history,
-    one_event_is_what_others_may_do, only_a_full_audit_is_spent, others_may_rest,
-    points_stand_in_what_was_seen, what_is_replied_is_legal, what_others_do_adds_up,
-    what_was_seen_stays,
+    events_stand_at_readings_of_the_clock, one_event_is_what_others_may_do,
+    only_a_full_audit_is_spent, others_may_rest, points_stand_in_what_was_seen,
+    what_is_replied_is_legal, what_others_do_adds_up, what_was_seen_stays,
 };
 use std::test::Fail;
 
@@ -47,5 +47,6 @@ fn laws(_rt: HostRuntime) -> Result<(), Fail> {
     what_others_do_adds_up();
     points_stand_in_what_was_seen();
     only_a_full_audit_is_spent();
+    events_stand_at_readings_of_the_clock();
     Ok(())
 }

@@ -16,7 +16,7 @@ pub returns-in-Done-clause-moves : goal.returns-in-Done-clause-moves
 returns-in-Done-clause-moves g c = moves-on _ _ _ c.loop.invariant.moves c.in-Done.ensures.moves
 
 pub returns-in-Done-clause-driven : goal.returns-in-Done-clause-driven
-returns-in-Done-clause-driven g c = λ begun went. driven-step _ _ _ _ _ _ begun (c.loop.invariant.driven begun went) c.in-Done.ensures.event
+returns-in-Done-clause-driven g c = λ begun went. driven-step _ _ _ _ _ _ _ begun (c.loop.invariant.driven begun went) c.now.ensures.reading c.now.ensures.goes_on c.in-Done.ensures.event
 
 pub loop-smaller : goal.loop-smaller
 loop-smaller g c = c.in-More.ensures.more refl
@@ -26,5 +26,5 @@ loop-preserved g c = record {
   ready = not-done _ c.in-More.ensures.done;
   fits = c.in-More.ensures.fits;
   moves = moves-on _ _ _ c.loop.invariant.moves c.in-More.ensures.moves;
-  driven = λ begun went. driven-step _ _ _ _ _ _ begun (c.loop.invariant.driven begun went) c.in-More.ensures.event;
+  driven = λ begun went. driven-step _ _ _ _ _ _ _ begun (c.loop.invariant.driven begun went) c.now.ensures.reading c.now.ensures.goes_on c.in-More.ensures.event;
 }

@@ -33,3 +33,9 @@ returns-clause-own g c = rw (← c.self.view_is) (λ apart.
     let own = c.ask-result.ensures.own (λ e. moved (c.last-after.ensures.is ∙ e ∙ sym c.last-before.ensures.is)) in
     let last = (c.note_last.ensures.moved moved).1 in
     (omega (arith, c.between.ensures.entries, own.0, last, c.last-after.ensures.is), omega (arith, own.1, last, c.last-after.ensures.is)))
+
+pub returns-then-is_err-clause-store : goal.returns-then-is_err-clause-store
+returns-then-is_err-clause-store g c = rw (← c.self.view_is) (λ alone. cc alone)
+
+pub returns-clause-store : goal.returns-clause-store
+returns-clause-store g c = rw (← c.self.view_is) (λ alone. cc alone)

@@ -18,3 +18,6 @@ pub returns-clause-causes : goal.returns-clause-causes
 returns-clause-causes g c =
     rw (← c.self.view_is, c.end.ensures) (causes-after c.self.inside.own c.self.inside.own (g.D.Desk.view c.self.inside.desk) (g.D.Desk.view c.between.new.desk) (g.D.Desk.view c.place-result.new.self) c.args.now c.self.inside.last c.self.inside.last c.self.inside.sealed _
     (StagePlaced c.args.upload c.args.digest.now) _ (λ u x apart h. keeps-placed u c.args.upload x c.self.inside.sealed apart h) c.between.ensures c.place-result.ensures.causes)
+
+pub returns-clause-store : goal.returns-clause-store
+returns-clause-store g c = rw (← c.self.view_is) (λ alone. cc alone)
