@@ -133,7 +133,7 @@ fn checked_as(ask: &Ask, answer: Result<Told, Refusal>, moment: u64) -> Checked
 // The event, by which the check ends.
 fn asked<D: Desk>(desk: &mut D, ask: &Ask, now: u64) -> Checked
     ensures event { (before : Option Ended) → is_ended before ≡ false
-        → Steps (IsStreamFault D.Stage D.Reader D.Stage.faults D.Reader.faults) (D.view desk.old) (D.view desk.new)
+        → Steps (IsStreamFault D.Stage D.Reader D.Stage.faults D.Reader.faults) now (D.view desk.old) (D.view desk.new)
         (λ begun points. Went begun (record { ask = ask.now; ended = before }) points)
         (λ begun points. Went begun (record { ask = ask.now; ended = Some result }) points) }
     ensures moves { Moves (D.view desk.old) (D.view desk.new) }

@@ -204,7 +204,7 @@ fn open_step<D: Desk>(
     now: u64,
 ) -> Phase
     requires noted { IsNoted sought.now (phase.Open note) }
-    ensures event { Steps (IsStreamFault D.Stage D.Reader D.Stage.faults D.Reader.faults) (D.view desk.old) (D.view desk.new)
+    ensures event { Steps (IsStreamFault D.Stage D.Reader D.Stage.faults D.Reader.faults) now (D.view desk.old) (D.view desk.new)
         (λ begun points. Went begun (record { sought = sought.now; phase = phase.Open note }) points)
         (λ begun points. Went begun (record { sought = sought.now; phase = result }) points) }
     ensures moves { Moves (D.view desk.old) (D.view desk.new) }
@@ -235,7 +235,7 @@ fn open_step<D: Desk>(
 
 // The second event, whose answer decides nothing.
 fn note_step<D: Desk>(desk: &mut D, ask: Ask, got: Got, now: u64) -> Phase
-    ensures event { (sought : Seeking) → Steps (IsStreamFault D.Stage D.Reader D.Stage.faults D.Reader.faults) (D.view desk.old) (D.view desk.new)
+    ensures event { (sought : Seeking) → Steps (IsStreamFault D.Stage D.Reader D.Stage.faults D.Reader.faults) now (D.view desk.old) (D.view desk.new)
         (λ begun points. Went begun (record { sought = sought; phase = phase.Note ask got }) points)
         (λ begun points. Went begun (record { sought = sought; phase = result }) points) }
     ensures moves { Moves (D.view desk.old) (D.view desk.new) }
@@ -250,7 +250,7 @@ fn next<D: Desk>(alloc: Global, desk: &mut D, sought: &Sought, phase: Phase, now
     requires going { is_ended phase ≡ false }
     requires fits { PhaseFits phase (D.view desk.old) }
     requires noted { IsNoted sought.now phase }
-    ensures event { Steps (IsStreamFault D.Stage D.Reader D.Stage.faults D.Reader.faults) (D.view desk.old) (D.view desk.new)
+    ensures event { Steps (IsStreamFault D.Stage D.Reader D.Stage.faults D.Reader.faults) now (D.view desk.old) (D.view desk.new)
         (λ begun points. Went begun (record { sought = sought.now; phase = phase }) points)
         (λ begun points. Went begun (record { sought = sought.now; phase = result }) points) }
     ensures moves { Moves (D.view desk.old) (D.view desk.new) }

@@ -54,7 +54,7 @@ impl Desk for StoreDesk {
 
     ghost one_length = { λ d. Unit {0} };
 
-    ghost no_stage = { λ d upload. Unit {0} };
+    ghost contents = { λ d. None };
 
     fn ask(&mut self, ask: &Ask, now: u64) -> Result<Told, Refusal> {
         self.moment = self.moment.max(now);

@@ -20,7 +20,7 @@ use Rattle.hb_desk.specs.Noting.{seal_of}
 use Rattle.hb_desk.specs.declared.asks.Ask.{Ask}
 use Rattle.hb_desk.specs.declared.asks.Ask.TheVariants.{ShowProject, TouchBlob, BeginUpload, EndUpload, Seal, SealManifest, Settle, PutArtifact, Look, NotePull}
 use Rattle.hb_desk.specs.declared.told.Told.{Told}
-use Rattle.hb_desk.proofs.Stepping.{between-by, stood-at}
+use Rattle.hb_desk.proofs.Stepping.{between-by, stood-at, timely-by}
 use Rattle.hb_upload.specs.Deciding.{begun_by, decided, earlier, first_stop, or_pushed, refused_by, stops_at, unless_right}
 use Rattle.hb_upload.specs.Phases.{CalledAt, IsStageFault, OneEvent, PhaseFits, place_at}
 use Rattle.hb_upload.specs.Places.{Parcel, seal_by, seal_with, settle_by, settle_with, CallAt, Calls, Place, Beginning, Staging, Sealing, Placing, Settling, Ending, Dropping, Stopped, next, place_of, staged}
@@ -33,10 +33,10 @@ use Rattle.hb_upload.specs.declared.phase.Stop.{Stop}
 use Rattle.hb_upload.specs.declared.phase.Stop.TheVariants.{Pushed, WrongDigest, Refused}
 
 -- ---- one event
-pub one-event : {T : Type 0} (Streams : Option Refusal → Type 0) (b : Parcel) (old new : View) (now : ℕ) (made call : Call) (outcome : Outcome) (fault : Option Refusal) (at : Place) (p : Phase T) → made ≡ call → EventOf old new made outcome → Causes old new now made outcome → Streams fault → place_at p ≡ next b at new.moment outcome fault → OneEvent Streams b old new call at p
+pub one-event : {T : Type 0} (Streams : Option Refusal → Type 0) (b : Parcel) (old new : View) (now : ℕ) (made call : Call) (outcome : Outcome) (fault : Option Refusal) (at : Place) (p : Phase T) → made ≡ call → EventOf old new made outcome → Causes old new now made outcome → Streams fault → place_at p ≡ next b at new.moment outcome fault → OneEvent Streams b now old new call at p
 one-event Streams b old new now made call outcome fault at p is event causes stream leads =
     let stood = stood-at old.state old new made outcome event in
-    record { point = point_of old new stood.0 made outcome fault; between = between-by old new now stood.0 made outcome fault stood.1 causes; calls = is; stream = stream; leads = leads }
+    record { point = point_of old new stood.0 made outcome fault; between = between-by old new now stood.0 made outcome fault stood.1 causes; timely = timely-by old new now stood.0 made outcome fault causes; calls = is; stream = stream; leads = leads }
 
 -- the points of a push go on
 went-on : {T : Type 0} (begun push after : PushParts T) (p : Point) (points : List Point) → after.parcel ≡ push.parcel → CallAt push.parcel (place_at push.phase) p.event.call → place_at after.phase ≡ next push.parcel (place_at push.phase) p.event.moment p.event.outcome p.fault → Went begun push points → Went begun after (p ∷ points)
@@ -46,12 +46,13 @@ went-on begun push after p points same called leads went = record {
   at = leads ∙ ap (λ at. next push.parcel at p.event.moment p.event.outcome p.fault) went.at ∙ ap (λ b. next b (place_of b points) p.event.moment p.event.outcome p.fault) (sym same);
 }
 
-pub stepped : {T : Type 0} (Streams : Option Refusal → Type 0) (old new : View) (push after : PushParts T) → after.parcel ≡ push.parcel → CalledAt Streams push.parcel old new (place_at push.phase) after.phase → Steps Streams old new (λ begun points. Went begun push points) (λ begun points. Went begun after points)
-stepped Streams old new push after same called =
+pub stepped : {T : Type 0} (Streams : Option Refusal → Type 0) (now : ℕ) (old new : View) (push after : PushParts T) → after.parcel ≡ push.parcel → CalledAt Streams push.parcel now old new (place_at push.phase) after.phase → Steps Streams now old new (λ begun points. Went begun push points) (λ begun points. Went begun after points)
+stepped Streams now old new push after same called =
     let one = called.one in
     record {
       point = one.point;
       between = one.between;
+      timely = one.timely;
       stream = one.stream;
       goes = λ begun points went. went-on begun push after one.point points same (subst (CallAt push.parcel (place_at push.phase)) (sym one.calls) called.called) one.leads went;
     }
@@ -178,8 +179,8 @@ pub bytes-appended : (told : Bool) (old new : Option (List ℕ)) (piece : List �
 bytes-appended told old new piece offset none there appends h = appended old new piece offset none (there h) appends
 
 -- ---- one event by the phase
-pub called : {T : Type 0} (Streams : Option Refusal → Type 0) (b : Parcel) (old new : View) (call : Call) (at here : Place) (p : Phase T) → at ≡ here → CallAt b here call → OneEvent Streams b old new call here p → CalledAt Streams b old new at p
-called Streams b old new call at here p is made event = record { call = call; called = subst (λ at. CallAt b at call) (sym is) made; one = subst (λ at. OneEvent Streams b old new call at p) (sym is) event }
+pub called : {T : Type 0} (Streams : Option Refusal → Type 0) (b : Parcel) (now : ℕ) (old new : View) (call : Call) (at here : Place) (p : Phase T) → at ≡ here → CallAt b here call → OneEvent Streams b now old new call here p → CalledAt Streams b now old new at p
+called Streams b now old new call at here p is made event = record { call = call; called = subst (λ at. CallAt b at call) (sym is) made; one = subst (λ at. OneEvent Streams b now old new call at p) (sym is) event }
 
 pub ending-at : {T : Type 0} (upload : ℕ) (stage : Option T) (stop : Stop) → place_at (phase.End upload stage stop) ≡ Ending upload (is_some stage) stop
 ending-at upload (Some stage) stop = refl

@@ -6,7 +6,7 @@ use Rattle.hb_store.specs.Causes.{SomeRose}
 use Rattle.hb_desk.specs.Calls.{Call, StageAt}
 use Rattle.hb_desk.specs.Clause.{View}
 use Rattle.hb_desk.specs.Notes.{sealed_at}
-use Rattle.hb_desk.specs.Points.{IsBetween, Point}
+use Rattle.hb_desk.specs.Points.{IsBetween, IsTimely, Point}
 use Rattle.hb_desk.specs.declared.refusals.Refusal.{Refusal}
 use Rattle.hb_desk.specs.declared.refusals.Refusal.TheVariants.{Memory, Storage}
 use Rattle.hb_upload.specs.Places.{Parcel, CallAt, Place, Beginning, Staging, Sealing, Placing, Settling, Ending, Dropping, Stopped, next}
@@ -57,10 +57,12 @@ PhaseFits upload_of size_of bytes_of digest bytes p v = Unit {0}
 abbrev pub IsStageFault : (Stage : Type 0) → (Stage → ℕ) → Option Refusal → Type 0
 IsStageFault Stage faults fault = IfSome fault (λ refusal. (refusal ≡ Memory) ⊎ ((refusal ≡ Storage) × SomeRose Stage faults))
 
--- One event from a place of a push to the next. Streams says what a call on the stage that it gave may be refused for.
-pub record OneEvent {T : Type 0} (Streams : Option Refusal → Type 0) (b : Parcel) (old new : View) (call : Call) (at : Place) (p : Phase T) : Type 0 where
+-- One event, handed this moment, from a place of a push to the next. Streams says what a call on the stage that it gave may be
+-- refused for.
+pub record OneEvent {T : Type 0} (Streams : Option Refusal → Type 0) (b : Parcel) (now : ℕ) (old new : View) (call : Call) (at : Place) (p : Phase T) : Type 0 where
   pub point : Point
   pub between : IsBetween point old new
+  pub timely : IsTimely now old point
   pub calls : point.event.call ≡ call
   pub stream : Streams point.fault
   pub leads : place_at p ≡ next b at point.event.moment point.event.outcome point.fault
@@ -72,7 +74,7 @@ pub record GoesOn {T : Type 0} (Streams : Option Refusal → Type 0) (b : Parcel
   pub leads : place_at p ≡ next b (Staging upload) moment (Ok (StageAt offset)) fault
 
 -- one event by the call that a push makes there
-pub record CalledAt {T : Type 0} (Streams : Option Refusal → Type 0) (b : Parcel) (old new : View) (at : Place) (p : Phase T) : Type 0 where
+pub record CalledAt {T : Type 0} (Streams : Option Refusal → Type 0) (b : Parcel) (now : ℕ) (old new : View) (at : Place) (p : Phase T) : Type 0 where
   pub call : Call
   pub called : CallAt b at call
-  pub one : OneEvent Streams b old new call at p
+  pub one : OneEvent Streams b now old new call at p

@@ -169,7 +169,7 @@ fn next<D: Desk>(
     requires ready { IsReady given.now begin.now seal.old settle.old }
     requires going { is_ended phase ≡ false }
     requires fits { PhaseFits D.Stage.upload D.Stage.size D.Stage.bytes given.now.digest given.now.bytes phase (D.view desk.old) }
-    ensures event { CalledAt (IsStreamFault D.Stage D.Reader D.Stage.faults D.Reader.faults) (parcel_of given.now seal.old) (D.view desk.old) (D.view desk.new) (place_at phase) result }
+    ensures event { CalledAt (IsStreamFault D.Stage D.Reader D.Stage.faults D.Reader.faults) (parcel_of given.now seal.old) now (D.view desk.old) (D.view desk.new) (place_at phase) result }
     ensures moves { Moves (D.view desk.old) (D.view desk.new) }
     ensures fits { PhaseFits D.Stage.upload D.Stage.size D.Stage.bytes given.now.digest given.now.bytes result (D.view desk.new) }
     ensures falls { left_of result < left_of phase }

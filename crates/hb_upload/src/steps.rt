@@ -42,7 +42,7 @@ fn begun<T>(told: Told, moment: u64) -> Phase<T>
 
 /// The upload begins.
 pub(crate) fn begin_step<D: Desk>(desk: &mut D, ask: &Ask, now: u64) -> Phase<D::Stage>
-    ensures event { (b : Parcel) → ask.now ≡ BeginUpload b.name → OneEvent (IsStreamFault D.Stage D.Reader D.Stage.faults D.Reader.faults) b (D.view desk.old) (D.view desk.new) (Asked (BeginUpload b.name)) Beginning result }
+    ensures event { (b : Parcel) → ask.now ≡ BeginUpload b.name → OneEvent (IsStreamFault D.Stage D.Reader D.Stage.faults D.Reader.faults) b now (D.view desk.old) (D.view desk.new) (Asked (BeginUpload b.name)) Beginning result }
     ensures moves { Moves (D.view desk.old) (D.view desk.new) }
     ensures fits { (digest : AnyDigest) (bytes : List ℕ) → PhaseFits D.Stage.upload D.Stage.size D.Stage.bytes digest bytes result (D.view desk.new) }
     ensures falls { left_of result < 7 }
@@ -115,7 +115,7 @@ pub(crate) fn stage_step<D: Desk>(
     now: u64,
 ) -> Phase<D::Stage>
     requires { given.now.found ≡ digest_of given.now.bytes }
-    ensures event { (seal : Asking) → OneEvent (IsStreamFault D.Stage D.Reader D.Stage.faults D.Reader.faults) (parcel_of given.now seal) (D.view desk.old) (D.view desk.new) (StageTaken given.now.name upload None) (Staging upload) result }
+    ensures event { (seal : Asking) → OneEvent (IsStreamFault D.Stage D.Reader D.Stage.faults D.Reader.faults) (parcel_of given.now seal) now (D.view desk.old) (D.view desk.new) (StageTaken given.now.name upload None) (Staging upload) result }
     ensures moves { Moves (D.view desk.old) (D.view desk.new) }
     ensures fits { PhaseFits D.Stage.upload D.Stage.size D.Stage.bytes given.now.digest given.now.bytes result (D.view desk.new) }
     ensures falls { left_of result < 6 }
@@ -143,7 +143,7 @@ pub(crate) fn seal_step<D: Desk>(
 ) -> Phase<D::Stage>
     requires seals { seal_of ask.now ≡ Some (record { upload = upload; digest = given.now.digest; size = length given.now.bytes }) }
     requires stage { HasBytes D.Stage.upload D.Stage.size D.Stage.bytes given.now.digest given.now.bytes upload stage (D.view desk.old) }
-    ensures event { (b : Parcel) → ask.now ≡ seal_with upload b → OneEvent (IsStreamFault D.Stage D.Reader D.Stage.faults D.Reader.faults) b (D.view desk.old) (D.view desk.new) (Asked (seal_with upload b)) (Sealing upload) result }
+    ensures event { (b : Parcel) → ask.now ≡ seal_with upload b → OneEvent (IsStreamFault D.Stage D.Reader D.Stage.faults D.Reader.faults) b now (D.view desk.old) (D.view desk.new) (Asked (seal_with upload b)) (Sealing upload) result }
     ensures moves { Moves (D.view desk.old) (D.view desk.new) }
     ensures fits { PhaseFits D.Stage.upload D.Stage.size D.Stage.bytes given.now.digest given.now.bytes result (D.view desk.new) }
     ensures falls { left_of result < 5 }
@@ -171,7 +171,7 @@ pub(crate) fn place_step<D: Desk>(
 ) -> Phase<D::Stage>
     requires stage { HasBytes D.Stage.upload D.Stage.size D.Stage.bytes given.now.digest given.now.bytes upload stage (D.view desk.old) }
     requires own { sealed_at upload (D.view desk.old).sealed ≡ Some (record { upload = upload; digest = given.now.digest; size = length given.now.bytes }) }
-    ensures event { (seal : Asking) → OneEvent (IsStreamFault D.Stage D.Reader D.Stage.faults D.Reader.faults) (parcel_of given.now seal) (D.view desk.old) (D.view desk.new) (StagePlaced upload given.now.digest) (Placing upload) result }
+    ensures event { (seal : Asking) → OneEvent (IsStreamFault D.Stage D.Reader D.Stage.faults D.Reader.faults) (parcel_of given.now seal) now (D.view desk.old) (D.view desk.new) (StagePlaced upload given.now.digest) (Placing upload) result }
     ensures moves { Moves (D.view desk.old) (D.view desk.new) }
     ensures fits { PhaseFits D.Stage.upload D.Stage.size D.Stage.bytes given.now.digest given.now.bytes result (D.view desk.new) }
     ensures falls { left_of result < 4 }
@@ -189,7 +189,7 @@ pub(crate) fn place_step<D: Desk>(
 
 /// The project gets what was placed.
 pub(crate) fn settle_step<D: Desk>(desk: &mut D, ask: &Ask, now: u64) -> Phase<D::Stage>
-    ensures event { (b : Parcel) (upload : ℕ) → ask.now ≡ settle_with upload b → OneEvent (IsStreamFault D.Stage D.Reader D.Stage.faults D.Reader.faults) b (D.view desk.old) (D.view desk.new) (Asked (settle_with upload b)) (Settling upload) result }
+    ensures event { (b : Parcel) (upload : ℕ) → ask.now ≡ settle_with upload b → OneEvent (IsStreamFault D.Stage D.Reader D.Stage.faults D.Reader.faults) b now (D.view desk.old) (D.view desk.new) (Asked (settle_with upload b)) (Settling upload) result }
     ensures moves { Moves (D.view desk.old) (D.view desk.new) }
     ensures fits { (digest : AnyDigest) (bytes : List ℕ) → PhaseFits D.Stage.upload D.Stage.size D.Stage.bytes digest bytes result (D.view desk.new) }
     ensures falls { left_of result < 3 }
@@ -214,7 +214,7 @@ pub(crate) fn end_step<D: Desk>(
     now: u64,
 ) -> Phase<D::Stage>
     requires { IfSome stage (λ s. D.Stage.upload s ≡ upload) }
-    ensures event { (b : Parcel) → OneEvent (IsStreamFault D.Stage D.Reader D.Stage.faults D.Reader.faults) b (D.view desk.old) (D.view desk.new) (Asked (EndUpload 0 upload)) (Ending upload (is_some stage) stop) result }
+    ensures event { (b : Parcel) → OneEvent (IsStreamFault D.Stage D.Reader D.Stage.faults D.Reader.faults) b now (D.view desk.old) (D.view desk.new) (Asked (EndUpload 0 upload)) (Ending upload (is_some stage) stop) result }
     ensures moves { Moves (D.view desk.old) (D.view desk.new) }
     ensures fits { (digest : AnyDigest) (bytes : List ℕ) → PhaseFits D.Stage.upload D.Stage.size D.Stage.bytes digest bytes result (D.view desk.new) }
     ensures falls { left_of result < 2 }
@@ -239,7 +239,7 @@ pub(crate) fn drop_step<D: Desk>(
     now: u64,
 ) -> Phase<D::Stage>
     requires { D.Stage.upload stage ≡ upload }
-    ensures event { (b : Parcel) → OneEvent (IsStreamFault D.Stage D.Reader D.Stage.faults D.Reader.faults) b (D.view desk.old) (D.view desk.new) (StageDropped upload true) (Dropping upload stop) result }
+    ensures event { (b : Parcel) → OneEvent (IsStreamFault D.Stage D.Reader D.Stage.faults D.Reader.faults) b now (D.view desk.old) (D.view desk.new) (StageDropped upload true) (Dropping upload stop) result }
     ensures moves { Moves (D.view desk.old) (D.view desk.new) }
     ensures fits { (digest : AnyDigest) (bytes : List ℕ) → PhaseFits D.Stage.upload D.Stage.size D.Stage.bytes digest bytes result (D.view desk.new) }
     ensures falls { left_of result < 1 }
