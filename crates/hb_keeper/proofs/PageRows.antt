@@ -1,10 +1,9 @@
 -- The keys of a page rise and are behind the key that it was asked for, where those of the table rise.
-use Rattle.std.proofs.Common.{◌≡◌, ◌≤◌, ℕ, suc, zero, IsTrue, Bool, true, false, cond, List, [], ◌∷◌, map, length, take, min, Option, refl, sym, ap, subst, ◌∙◌, arith}
+use Rattle.std.proofs.Common.{◌≡◌, ◌≤◌, ℕ, suc, zero, IsTrue, Bool, true, false, cond, List, [], ◌∷◌, map, length, take, Option, refl, sym, subst, ◌∙◌, arith}
 use Rattle.std.proofs.lemmas.List.{length-map, length-take}
 use Rattle.std.specs.List.{filter, AllByRecursion}
 use Rattle.std.specs.declared.cmp.Ordering.{Ordering}
 use Rattle.std.specs.declared.cmp.Ordering.TheVariants.{Less}
-use Rattle.std.specs.Ordering.{nat_cmp}
 use Rattle.std.specs.Cmp.{IsTotalOrder}
 use Rattle.hb_base.specs.Tables.{Rises}
 use Rattle.hb_base.proofs.TableLaws.{Rises-filter}
@@ -16,7 +15,6 @@ use Rattle.hb_records.specs.declared.keys.Key.{Key}
 use Rattle.hb_records.specs.declared.keys.Table.{Table}
 use Rattle.hb_records.specs.declared.keys.Table.TheVariants as table
 use Rattle.hb_records.specs.declared.pages.Page.{Page}
-use Rattle.hb_records.specs.declared.pages.Page.TheVariants as page
 use Rattle.hb_rows.specs.Tables.{Tables, AreTables, entries}
 use Rattle.hb_rows.specs.Pages.{is_behind, rows_behind, page_of, key_of_project, key_of_blob, key_of_pair, key_of_artifact, key_of_tag, key_of_upload, key_of_job, key_of_candidate, key_of_snap, key_of_entry}
 use Rattle.hb_keeper.specs.PageKeys.{IsPageBehind, table_of_page, keys_of}

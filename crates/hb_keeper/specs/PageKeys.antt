@@ -1,5 +1,5 @@
 -- What holds of every page that a keeper gives, also where it doesn't tell its rows.
-use Rattle.std.specs.Prelude.{◌≡◌, ◌≤◌, ℕ, IsTrue, List, map, length, Option}
+use Rattle.std.specs.Prelude.{◌≡◌, ◌≤◌, IsTrue, List, map, length, Option}
 use Rattle.std.specs.List.{AllByRecursion}
 use Rattle.hb_base.specs.Tables.{Rises}
 use Rattle.hb_records.specs.Keys.{key_cmp}

@@ -7,5 +7,6 @@ pub mod ReadPages
 pub mod ReadTables
 pub mod Standing
 pub mod StartSteps
+pub mod StoreCalled
 pub mod StoreEvents
 pub mod StoreSteps

@@ -14,7 +14,8 @@ use Rattle.hb_store.specs.declared.store.StoreFault.{StoreFault}
 use Rattle.hb_store.specs.declared.store.StoreFault.TheVariants.{Failed, Memory}
 use Rattle.hb_store.proofs.HeldBytes.{digest_cmp-equal, digest_cmp-same, bytes_of-holding, bytes_of-lapsed}
 use Rattle.hb_model.specs.Whole.{IsWhole}
-use Rattle.hb_world.specs.StoreStands.{HasNoStage, IsHeld, Stands, StillHolds}
+use Rattle.hb_desk.specs.StoreCalls.{HasNoStage}
+use Rattle.hb_world.specs.StoreStands.{IsHeld, Stands, StillHolds}
 use Rattle.hb_world.specs.Worlds.{IsTrueTo}
 use Rattle.hb_world.proofs.StoreSteps.{IsWhole-counting, IsWhole-found, IsWhole-placed, IsWhole-stages}
 

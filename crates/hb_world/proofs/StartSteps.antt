@@ -23,6 +23,7 @@ use Rattle.hb_model.specs.Fit.{Tells, unbuilt_at}
 use Rattle.hb_model.specs.History.{Legal, Stands, latest}
 use Rattle.hb_model.specs.LegalProjects.{library}
 use Rattle.hb_model.specs.ProjectEffects.{make_project}
+use Rattle.hb_model.specs.Registry.{Registry}
 use Rattle.hb_model.specs.Replay.{replay}
 use Rattle.hb_model.specs.Sound.{IsSound}
 use Rattle.hb_model.specs.Whole.{IsWhole, no_notes}
@@ -190,6 +191,11 @@ pub told-sound : (rows : Option Tables) (contents : Option Contents) (n : Notes)
 told-sound None contents n t h = tt
 told-sound (Some r) None n t h = tt
 told-sound (Some r) (Some c) n t h = sound-whole r n c t h
+
+-- what each artifact of a legal audit meets, the told audit's do
+pub told-artifacts : (P : Registry → Type 0) (rows : Option Tables) (w : Shown) → ((r : Tables) → RowsStand r w → P (replay r.audit)) → IfSome rows (λ r. RowsStand r w) → IfSome rows (λ r. P (replay r.audit))
+told-artifacts P None w law h = tt
+told-artifacts P (Some r) w law h = law r h
 
 -- the devices of a world that is closed
 pub closed-rest : (w : Shown) → IsWorld w → IsAtRest w.rows w.contents

@@ -1,12 +1,10 @@
 -- What a call of the store leaves of its contents.
-use Rattle.std.specs.Prelude.{◌≡◌, ℕ, [], Some, None, IfSome, IsSome, IsSomeAnd}
+use Rattle.std.specs.Prelude.{◌≡◌, ℕ, [], Some, None, IsSome, IsSomeAnd}
 use Rattle.std.specs.declared.option.Option.{Option}
-use Rattle.std.specs.Ordering.{nat_cmp}
-use Rattle.hb_base.specs.Tables.{row_at}
 use Rattle.hb_text.specs.declared.digests.Digest.{Digest}
 use Rattle.hb_records.specs.declared.notes.Notes.{Notes}
 use Rattle.hb_rows.specs.Tables.{Tables}
-use Rattle.hb_store.specs.Contents.{Contents, bytes_of, stage_key}
+use Rattle.hb_store.specs.Contents.{Contents, bytes_of}
 use Rattle.hb_model.specs.Whole.{IsWhole}
 use Rattle.hb_world.specs.Worlds.{IsTrueTo}
 
@@ -25,7 +23,3 @@ pub record StillHolds (c c' : Contents) : Type 0 where
 abbrev pub Stands : Option Contents → Option Contents → Type 0
 Stands None new = new ≡ None
 Stands (Some c) new = IsSomeAnd new (StillHolds c)
-
--- the upload has no stage in what the store tells
-abbrev pub HasNoStage : Option Contents → ℕ → Type 0
-HasNoStage contents upload = IfSome contents (λ c. row_at nat_cmp stage_key upload c.stages ≡ None)

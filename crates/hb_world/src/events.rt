@@ -20,7 +20,6 @@ fn moment_of(last: u64, now: u64) -> u64
 }
 
 impl<K: Keeper, S: Store> Desk for World<K, S> {
-    ghost use Rattle.hb_world.specs.StoreStands.{HasNoStage};
     ghost use Rattle.hb_world.specs.Worlds.{OneLengthTold, shown, view_of};
 
     type Stage = S::Stage;
@@ -31,7 +30,7 @@ impl<K: Keeper, S: Store> Desk for World<K, S> {
 
     ghost one_length = { λ w. OneLengthTold (K.rows w.keeper) (S.contents w.store) };
 
-    ghost no_stage = { λ w upload. HasNoStage (S.contents w.store) upload };
+    ghost contents = { λ w. S.contents w.store };
 
     fn ask(&mut self, ask: &Ask, now: u64) -> Result<Told, Refusal> {
         let moment = moment_of(self.moment, now);

@@ -2,9 +2,10 @@
 ghost use Rattle.std.specs.Prelude.{◌≡◌, ◌≤◌, IfErr, IfOk, IsErrOf};
 ghost use Rattle.hb_outside.specs.Causes.{Rose};
 ghost use Rattle.hb_records.specs.declared.notes.Notes.{Notes};
-ghost use Rattle.hb_store.specs.Calls.{Fetches};
+ghost use Rattle.hb_store.specs.Calls.{Fetches, Unchanged};
 ghost use Rattle.hb_desk.specs.Calls.{BlobOpened, ManifestOpened, Content, plain};
 ghost use Rattle.hb_desk.specs.declared.refusals.Refusal.TheVariants.{Keeper as KeeperFailed, Storage, Spent};
+ghost use Rattle.hb_desk.specs.StoreCalls.{OneCall};
 ghost use Rattle.hb_world.specs.StoreStands.{Stands};
 ghost use Rattle.hb_world.specs.Storing.{IsStoreFault, RowsReply};
 
@@ -19,6 +20,7 @@ use std::alloc::Global;
 // A reader of what is held under the digest.
 fn fetch<S: Store>(store: &mut S, digest: &Digest, moment: u64) -> Result<S::Reader, Refusal>
     ensures told { IfOk result (λ reader. Fetches (S.contents store.new) digest.now (S.Reader.bytes reader) (S.Reader.left reader)) }
+    ensures called { OneCall (λ answer. Unchanged) (S.contents store.old) moment result (S.contents store.new) }
     ensures stands { Stands (S.contents store.old) (S.contents store.new) }
     ensures fault { IfErr result IsStoreFault }
     ensures later { S.faults store.old ≤ S.faults store.new }
@@ -42,6 +44,7 @@ pub(crate) fn open_blob<K: Keeper, S: Store>(
     ensures reply { (n : Notes) → RowsReply (K.rows keeper.old) n (BlobOpened name.now digest.now) (plain (λ o. Content o.digest o.size o.media) result) }
     ensures told { IfOk result (λ o. Fetches (S.contents store.new) o.digest (S.Reader.bytes o.reader) (S.Reader.left o.reader)) }
     ensures rows { K.rows keeper.new ≡ K.rows keeper.old }
+    ensures called { OneCall (λ answer. Unchanged) (S.contents store.old) moment result (S.contents store.new) }
     ensures stands { Stands (S.contents store.old) (S.contents store.new) }
     ensures keeper_later { K.faults keeper.old ≤ K.faults keeper.new }
     ensures store_later { S.faults store.old ≤ S.faults store.new }
@@ -78,6 +81,7 @@ pub(crate) fn open_manifest<K: Keeper, S: Store>(
     ensures reply { (n : Notes) → RowsReply (K.rows keeper.old) n (ManifestOpened name.now reference.now) (plain (λ o. Content o.digest o.size o.media) result) }
     ensures told { IfOk result (λ o. Fetches (S.contents store.new) o.digest (S.Reader.bytes o.reader) (S.Reader.left o.reader)) }
     ensures rows { K.rows keeper.new ≡ K.rows keeper.old }
+    ensures called { OneCall (λ answer. Unchanged) (S.contents store.old) moment result (S.contents store.new) }
     ensures stands { Stands (S.contents store.old) (S.contents store.new) }
     ensures keeper_later { K.faults keeper.old ≤ K.faults keeper.new }
     ensures store_later { S.faults store.old ≤ S.faults store.new }

@@ -1,15 +1,17 @@
 //! The events of a world that take or give a stage.
-ghost use Rattle.std.specs.Prelude.{◌≡◌, ◌≤◌, Some, None, IfSome, IfOk, IfErr, IsErrOf, IsSomeAnd, OnOk, length, true, false};
+ghost use Rattle.std.specs.Prelude.{◌≡◌, ◌≤◌, ℕ, Some, None, IfSome, IfOk, IfErr, IsErrOf, IsSomeAnd, OnOk, length, true, false};
 ghost use Rattle.hb_outside.specs.Causes.{Rose};
 ghost use Rattle.hb_text.specs.Digests.{digest_of};
 ghost use Rattle.hb_records.specs.declared.notes.Notes.{Notes};
 ghost use Rattle.hb_rows.specs.Tables.{Tables, upload_at};
+ghost use Rattle.hb_store.specs.Calls.{Dropping, Placing, Stages, Staging};
 ghost use Rattle.hb_store.specs.Contents.{bytes_of};
 ghost use Rattle.hb_desk.specs.Calls.{StageTaken, StageDropped, StageAt, Number, Dropped, plain};
 ghost use Rattle.hb_desk.specs.Notes.{is_out as stage_is_out, sealed_at};
 ghost use Rattle.hb_desk.specs.Noting.{handed_back, placing, taking_out};
 ghost use Rattle.hb_desk.specs.declared.refusals.Refusal.TheVariants.{Keeper as KeeperFailed, Storage, Spent};
-ghost use Rattle.hb_world.specs.StoreStands.{HasNoStage, Stands};
+ghost use Rattle.hb_desk.specs.StoreCalls.{HasNoStage, OneCall};
+ghost use Rattle.hb_world.specs.StoreStands.{Stands};
 ghost use Rattle.hb_world.specs.Storing.{IsStoreFault, RowsReply, upload_over};
 
 use crate::looking::has_project;
@@ -96,6 +98,8 @@ pub(crate) fn take_stage<K: Keeper, S: Store>(
     ensures noted { notes.new ≡ taking_out upload (plain (λ s. StageAt s.offset) result) notes.old }
     ensures made { IfOk result (λ s. (S.Stage.upload s.stage ≡ upload) × (S.Stage.size s.stage ≡ s.offset)) }
     ensures bytes { IfSome (S.contents store.old) (λ _. IfOk result (λ s. IsSomeAnd (S.Stage.bytes s.stage) (λ b. length b ≡ s.offset))) }
+    ensures staged { IfOk result (λ s. Stages (S.contents store.new) upload s.offset (S.Stage.bytes s.stage)) }
+    ensures called { (keep : ℕ) × IfOk result (λ s. s.offset ≡ keep) × OneCall (Staging upload keep) (S.contents store.old) moment result (S.contents store.new) }
     ensures rows { K.rows keeper.new ≡ K.rows keeper.old }
     ensures stands { Stands (S.contents store.old) (S.contents store.new) }
     ensures keeper_later { K.faults keeper.old ≤ K.faults keeper.new }
@@ -134,6 +138,7 @@ pub(crate) fn place_noted<S: Store>(
     ensures number { IfOk result (λ n. n ≡ entries) }
     ensures noted { notes.new ≡ placing upload entries (plain Number result) notes.old }
     ensures ended { OnOk result (HasNoStage (S.contents store.new) upload) }
+    ensures called { OneCall (Placing upload (S.Stage.bytes stage) digest.now) (S.contents store.old) moment result (S.contents store.new) }
     ensures held { OnOk result (IfSome (S.contents store.new) (λ c. IsSomeAnd (bytes_of c digest.now) (λ b. (digest_of b ≡ digest.now) × (length b ≡ S.Stage.size stage)))) }
     ensures stands { Stands (S.contents store.old) (S.contents store.new) }
     ensures fault { IfErr result IsStoreFault }
@@ -163,6 +168,7 @@ pub(crate) fn place_noted<S: Store>(
 // Ends the upload's stage in the store.
 fn end_stage<S: Store>(store: &mut S, upload: u64, moment: u64) -> Result<(), Refusal>
     ensures ended { OnOk result (HasNoStage (S.contents store.new) upload) }
+    ensures called { OneCall (Dropping upload) (S.contents store.old) moment result (S.contents store.new) }
     ensures stands { Stands (S.contents store.old) (S.contents store.new) }
     ensures fault { IfErr result IsStoreFault }
     ensures later { S.faults store.old ≤ S.faults store.new }
@@ -184,6 +190,7 @@ pub(crate) fn drop_handed<S: Store>(
 ) -> Result<(), Refusal>
     ensures noted { notes.new ≡ handed_back upload true notes.old }
     ensures ended { OnOk result (HasNoStage (S.contents store.new) upload) }
+    ensures called { OneCall (Dropping upload) (S.contents store.old) moment result (S.contents store.new) }
     ensures stands { Stands (S.contents store.old) (S.contents store.new) }
     ensures fault { IfErr result IsStoreFault }
     ensures later { S.faults store.old ≤ S.faults store.new }
@@ -204,6 +211,7 @@ pub(crate) fn drop_left<K: Keeper, S: Store>(
 ) -> Result<(), Refusal>
     ensures reply { (n : Notes) → stage_is_out n upload ≡ out → RowsReply (K.rows keeper.old) n (StageDropped upload false) (plain (λ _. Dropped) result) }
     ensures ended { OnOk result (HasNoStage (S.contents store.new) upload) }
+    ensures called { OneCall (Dropping upload) (S.contents store.old) moment result (S.contents store.new) }
     ensures rows { K.rows keeper.new ≡ K.rows keeper.old }
     ensures stands { Stands (S.contents store.old) (S.contents store.new) }
     ensures keeper_later { K.faults keeper.old ≤ K.faults keeper.new }

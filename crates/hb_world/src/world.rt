@@ -3,6 +3,7 @@ ghost use Rattle.std.specs.Prelude.{◌≡◌, ◌≤◌, Some, IfOk, IfErr, IfS
 ghost use Rattle.hb_keeper.specs.declared.keeper.KeepFault.TheVariants as keep;
 ghost use Rattle.hb_rows.specs.Tables.{empty_tables};
 ghost use Rattle.hb_store.specs.MemStores.{empty_contents};
+ghost use Rattle.hb_history.specs.Artifacts.{ChildrenAreThere, TagsNameArtifacts};
 ghost use Rattle.hb_model.specs.Replay.{replay};
 ghost use Rattle.hb_model.specs.Sound.{IsSound};
 ghost use Rattle.hb_model.specs.Whole.{no_notes};
@@ -148,11 +149,14 @@ impl<K: Keeper, S: Store> World<K, S> {
     }
 
     /// Its rows are those of a legal audit, and rows, contents and what is remembered fit one another: what clients
-    /// see after the audit is stored, with bytes of its digest. It does nothing, and its contract is what holds
-    /// of a world at every event.
+    /// see after the audit is stored, with bytes of its digest; each child of an index is an artifact of the same
+    /// repository, and so is what a tag names. It does nothing, and its contract is what holds of a world at every
+    /// event.
     pub fn holds(&self)
         ensures whole { IsWorld (shown K.rows K.faults S.contents S.faults self.now) }
         ensures sound { IfSome (K.rows self.now.keeper) (λ r. IfSome (S.contents self.now.store) (λ c. IsSound (replay r.audit) c)) }
+        ensures children { IfSome (K.rows self.now.keeper) (λ r. ChildrenAreThere (replay r.audit)) }
+        ensures tags { IfSome (K.rows self.now.keeper) (λ r. TagsNameArtifacts (replay r.audit)) }
     {
         let _moment = self.moment;
     }

@@ -1,5 +1,7 @@
-use Rattle.std.proofs.Common.{rules}
+use Rattle.std.proofs.Common.{refl, rules}
+use Rattle.hb_store.specs.Calls.{Staging}
 use Rattle.hb_world.proofs.Standing.{Stands-staging}
+use Rattle.hb_world.proofs.StoreCalled.{called-done, called-refused}
 use Rattle.hb_world.proofs.staging.take_stage.Goals as goal
 
 pub returns-in-Ok-clause-stands : goal.returns-in-Ok-clause-stands
@@ -7,3 +9,9 @@ returns-in-Ok-clause-stands g c = let h = c.in-Ok.ensures.contents in search (ru
 
 pub returns-in-Err-clause-stands : goal.returns-in-Err-clause-stands
 returns-in-Err-clause-stands g c = let h = c.in-Err.ensures.contents in search (rules, Stands-staging)
+
+pub returns-in-Ok-clause-called : goal.returns-in-Ok-clause-called
+returns-in-Ok-clause-called g c = (c.in_ok-offset.offset, refl, called-done _ (Staging c.args.upload _) _ c.args.moment _ _ c.in-Ok.ensures.contents)
+
+pub returns-in-Err-clause-called : goal.returns-in-Err-clause-called
+returns-in-Err-clause-called g c = (c.in_ok-offset.offset, tt, called-refused _ (Staging c.args.upload _) _ c.args.moment _ _ _ c.store_refusal.ensures.failed c.store_refusal.ensures.fault c.in-Err.ensures.contents)

@@ -31,6 +31,7 @@ returns-clause-causes g c = let e = c.place_noted-result.ensures in rw (← c.se
   rises = omega (arith, c.moment_of-moment.ensures);
   sealed = λ u x apart h. search (rules, keeps-placed);
   moment = search rules;
+  clock = λ alone. omega (arith, c.moment_of-moment.ensures);
   told = refl;
   sole = refl;
   told_bytes = search rules;
