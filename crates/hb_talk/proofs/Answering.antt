@@ -1,12 +1,12 @@
 -- What came of the operations of requests, and their answers.
-use Rattle.std.proofs.Common.{◌≡◌, ◌≢◌, ◌⊎◌, if◌then◌else◌, ℕ, true, false, List, [], Option, Some, Result, Ok, Err, IfErr, IfOk, codes, inl, inr, refl, sym, ap, subst, ◌∙◌}
+use Rattle.std.proofs.Common.{◌≡◌, ◌≢◌, ◌⊎◌, if◌then◌else◌, ℕ, true, false, List, [], Option, Some, Result, Ok, Err, IfOk, codes, inl, inr, refl, sym, ap, subst, ◌∙◌}
 use Rattle.hb_text.specs.Digests.{digest_of}
 use Rattle.hb_text.specs.declared.digests.Digest.{Digest}
 use Rattle.hb_text.specs.declared.references.Reference.{Reference}
 use Rattle.hb_http.specs.AnswerHeads.{HasPhrase}
 use Rattle.hb_desk.specs.Chains.{Driven}
-use Rattle.hb_desk.specs.Clause.{View}
 use Rattle.hb_desk.specs.Points.{Point}
+use Rattle.hb_desk.specs.Timed.{Timed}
 use Rattle.hb_desk.specs.declared.answers.Answer.{Answer}
 use Rattle.hb_desk.specs.declared.refusals.Refusal.{Refusal}
 use Rattle.hb_upload.specs.Deciding.{decided}
@@ -26,9 +26,8 @@ use Rattle.hb_manifest.specs.Forms.{manifest_form}
 use Rattle.hb_manifest.specs.declared.manifests.ManifestFault.{ManifestFault}
 use Rattle.hb_manifest.specs.declared.manifests.ManifestFault.TheVariants as manifest
 use Rattle.hb_talk.specs.Driving.{IsRefused, Worked}
-use Rattle.hb_talk.specs.Tasks.{Makes, Task, checked_answer, got_answer, location_of, manifest_error, manifest_task, names_other, push_answer, task_of, wrong_digest}
+use Rattle.hb_talk.specs.Tasks.{Makes, ReadsTrue, Task, answer_of, checked_answer, got_answer, location_of, manifest_error, manifest_task, names_other, push_answer, task_of, wrong_digest}
 use Rattle.hb_talk.specs.Tasks.Task.{Pushes, Gets, Checks, Refuses, Tells}
-use Rattle.hb_talk.specs.Turns.{IsDone, IsLeft}
 use Rattle.hb_talk.specs.declared.wanted.Wanted.TheVariants.{PutManifest}
 
 -- ---- each status that is answered has a phrase
@@ -50,14 +49,14 @@ manifest-phrase manifest.NoSchema = refl
 manifest-phrase manifest.TooMany = refl
 
 -- ---- a task without an event
-pub not-begun : {E : Type 0} (Streams : Option Refusal → Type 0) (task : Task) (v : View) (e : E) → Worked Streams task v v (Err e)
+pub not-begun : {E : Type 0} (Streams : Option Refusal → Type 0) (task : Task) (v : Timed) (e : E) → Worked Streams task v v (Err e)
 not-begun Streams task v e = record { points = []; chain = refl; done = tt; left = inl refl }
 
-pub refused-worked : {E : Type 0} (Streams : Option Refusal → Type 0) (error : ErrorForm) (v : View) (result : Result Answer E) → IfOk result (λ a. a ≡ error_answer error) → Worked Streams (Refuses error) v v result
+pub refused-worked : {E : Type 0} (Streams : Option Refusal → Type 0) (error : ErrorForm) (v : Timed) (result : Result Answer E) → IfOk result (λ a. a ≡ error_answer error) → Worked Streams (Refuses error) v v result
 refused-worked Streams error v (Err e) is = not-begun Streams (Refuses error) v e
 refused-worked Streams error v (Ok a) is = record { points = []; chain = refl; done = ([], record { makes = refl; answers = is; reads = tt; streams = tt }); left = tt }
 
-pub told-worked : {E : Type 0} (Streams : Option Refusal → Type 0) (answer : Answer) (v : View) (result : Result Answer E) → IfOk result (λ a. a ≡ answer) → Worked Streams (Tells answer) v v result
+pub told-worked : {E : Type 0} (Streams : Option Refusal → Type 0) (answer : Answer) (v : Timed) (result : Result Answer E) → IfOk result (λ a. a ≡ answer) → Worked Streams (Tells answer) v v result
 told-worked Streams answer v (Err e) is = not-begun Streams (Tells answer) v e
 told-worked Streams answer v (Ok a) is = record { points = []; chain = refl; done = ([], record { makes = refl; answers = is; reads = tt; streams = tt }); left = tt }
 
@@ -72,11 +71,21 @@ refused-form name r media body found a fault found_is same form is = record {
 }
 
 -- the task that is pushed is the manifest's
-pub as-task : {E : Type 0} (Streams : Option Refusal → Type 0) (task task' : Task) (old new : View) (result : Result Answer E) → task ≡ task' → Worked Streams task' old new result → Worked Streams task old new result
+pub as-task : {E : Type 0} (Streams : Option Refusal → Type 0) (task task' : Task) (old new : Timed) (result : Result Answer E) → task ≡ task' → Worked Streams task' old new result → Worked Streams task old new result
 as-task Streams task task' old new result same worked = subst (λ task. Worked Streams task old new result) (sym same) worked
 
-pub refused-task : (E : Type 0) (Streams : Option Refusal → Type 0) (task : Task) (a : Answer) (v : View) → IsRefused task a → Worked {E = E} Streams task v v (Ok a)
+pub refused-task : (E : Type 0) (Streams : Option Refusal → Type 0) (task : Task) (a : Answer) (v : Timed) → IsRefused task a → Worked {E = E} Streams task v v (Ok a)
 refused-task E Streams task a v is = as-task Streams task (Refuses is.error) v v (Ok a) is.task_is (refused-worked Streams is.error v (Ok a) is.answer_is)
+
+-- a task that was driven to its end, by points that decide its answer
+driven-worked : {E : Type 0} (Streams : Option Refusal → Type 0) (task : Task) (old new : Timed) (Went : List Point → Type 0) (read : List ℕ) (told : Answer) (result : Result Answer E) → (driven : Driven Streams old new Went) → Makes task driven.points → told ≡ answer_of task driven.points read → ReadsTrue old.view.told_bytes task driven.points read → IfOk result (λ a. a ≡ told) → Worked Streams task old new result
+driven-worked Streams task old new Went read told (Err e) driven makes decides reads answer = record { points = driven.points; chain = driven.chain; done = tt; left = inr (makes, driven.streams) }
+driven-worked Streams task old new Went read told (Ok a) driven makes decides reads answer = record {
+  points = driven.points;
+  chain = driven.chain;
+  done = (read, record { makes = makes; answers = answer ∙ decides; reads = reads; streams = driven.streams });
+  left = tt;
+}
 
 -- ---- a push that was driven to its end
 stopped-at : {T : Type 0} (p : Phase T) → is_ended p ≡ true → (stop : Stop) × (place_at p ≡ Stopped stop)
@@ -89,30 +98,16 @@ stopped-at (phase.Settle u) is = cc is
 stopped-at (phase.End u s stop) is = cc is
 stopped-at (phase.Drop u s stop) is = cc is
 
-pub push-worked : {T E : Type 0} (Streams : Option Refusal → Type 0) (begun push : PushParts T) (old new : View) (stop : Stop) (result : Result Answer E) → Driven Streams old new (Went begun push) → is_ended push.phase ≡ true → ((points : List Point) → Went begun push points → stop ≡ decided push.parcel points) → IfOk result (λ a. a ≡ push_answer begun.parcel stop) → Worked Streams (Pushes begun.parcel) old new result
-push-worked {E = E} Streams begun push old new stop result driven ended is answer = record { points = driven.points; chain = driven.chain; done = done result answer; left = left result }
+pub push-worked : {T E : Type 0} (Streams : Option Refusal → Type 0) (begun push : PushParts T) (old new : Timed) (stop : Stop) (result : Result Answer E) → Driven Streams old new (Went begun push) → is_ended push.phase ≡ true → ((points : List Point) → Went begun push points → stop ≡ decided push.parcel points) → IfOk result (λ a. a ≡ push_answer begun.parcel stop) → Worked Streams (Pushes begun.parcel) old new result
+push-worked Streams begun push old new stop result driven ended is answer =
+    driven-worked Streams (Pushes begun.parcel) old new (Went begun push) [] (push_answer begun.parcel stop) result driven makes
+    (ap (λ stop. push_answer begun.parcel stop) (is driven.points driven.went ∙ ap (λ b. decided b driven.points) driven.went.same)) tt answer
   where
     at : (stop : Stop) × (place_at push.phase ≡ Stopped stop)
     at = stopped-at push.phase ended
 
     makes : Makes (Pushes begun.parcel) driven.points
     makes = subst (λ b. Calls b driven.points × ((stop : Stop) × (place_of b driven.points ≡ Stopped stop))) driven.went.same (driven.went.calls, (at.0, sym driven.went.at ∙ at.1))
-
-    done : (result : Result Answer E) → IfOk result (λ a. a ≡ push_answer begun.parcel stop) → IfOk result (λ a. (read : List ℕ) × IsDone Streams old.told_bytes (Pushes begun.parcel) driven.points read a)
-    done (Err e) answer = tt
-    done (Ok a) answer = (
-      [],
-      record {
-        makes = makes;
-        answers = answer ∙ ap (λ stop. push_answer begun.parcel stop) (is driven.points driven.went ∙ ap (λ b. decided b driven.points) driven.went.same);
-        reads = tt;
-        streams = driven.streams;
-      },
-    )
-
-    left : (result : Result Answer E) → IfErr result (λ e. IsLeft Streams (Pushes begun.parcel) driven.points)
-    left (Err e) = inr (makes, driven.streams)
-    left (Ok a) = tt
 
 -- its answer, at the location and with the digest of what was pushed
 pub answer-for : {E : Type 0} (b : Parcel) (stop : Stop) (digest : Digest) (location : List ℕ) (result : Result Answer E) → location ≡ location_of b → b.digest ≡ digest → IfOk result (λ a. (b : Parcel) → location ≡ location_of b → b.digest ≡ digest → a ≡ push_answer b stop) → IfOk result (λ a. a ≡ push_answer b stop)
@@ -125,8 +120,10 @@ ok-both Q (Ok x) p q = (p, q)
 ok-both Q (Err e) p q = tt
 
 -- ---- a get
-pub get-worked : {E : Type 0} (Streams : Option Refusal → Type 0) (begun end : GetParts) (old new : View) (x : Got) (result : Result Answer E) → Driven Streams old new (GetWent begun end) → end.phase ≡ get.Ended x → ((points : List Point) → GetWent begun end points → x ≡ got_by (read_of x) points) → GetFits end.phase new → new.told_bytes ≡ old.told_bytes → IfOk result (λ a. a ≡ got_answer x) → Worked Streams (Gets begun.sought) old new result
-get-worked {E = E} Streams begun end old new x result driven ended is fits told answer = record { points = driven.points; chain = driven.chain; done = done result answer; left = left result }
+pub get-worked : {E : Type 0} (Streams : Option Refusal → Type 0) (begun end : GetParts) (old new : Timed) (x : Got) (result : Result Answer E) → Driven Streams old new (GetWent begun end) → end.phase ≡ get.Ended x → ((points : List Point) → GetWent begun end points → x ≡ got_by (read_of x) points) → GetFits end.phase new.view → new.view.told_bytes ≡ old.view.told_bytes → IfOk result (λ a. a ≡ got_answer x) → Worked Streams (Gets begun.sought) old new result
+get-worked Streams begun end old new x result driven ended is fits told answer =
+    driven-worked Streams (Gets begun.sought) old new (GetWent begun end) (read_of x) (got_answer x) result driven makes (ap (λ x. got_answer x) same)
+    (subst (λ x. HasDigest old.view.told_bytes x) same (subst (λ told. HasDigest told x) told (subst (λ p. GetFits p new.view) ended fits))) answer
   where
     same : x ≡ got_by (read_of x) driven.points
     same = is driven.points driven.went
@@ -134,33 +131,10 @@ get-worked {E = E} Streams begun end old new x result driven ended is fits told 
     makes : Makes (Gets begun.sought) driven.points
     makes = (x, subst (λ sought. LeadTo sought (get.Ended x) driven.points) driven.went.same (subst (λ p. LeadTo end.sought p driven.points) ended driven.went.lead))
 
-    done : (result : Result Answer E) → IfOk result (λ a. a ≡ got_answer x) → IfOk result (λ a. (read : List ℕ) × IsDone Streams old.told_bytes (Gets begun.sought) driven.points read a)
-    done (Err e) answer = tt
-    done (Ok a) answer = (
-      read_of x,
-      record {
-        makes = makes;
-        answers = answer ∙ ap (λ x. got_answer x) same;
-        reads = subst (λ x. HasDigest old.told_bytes x) same (subst (λ told. HasDigest told x) told (subst (λ p. GetFits p new) ended fits));
-        streams = driven.streams;
-      },
-    )
-
-    left : (result : Result Answer E) → IfErr result (λ e. IsLeft Streams (Gets begun.sought) driven.points)
-    left (Err e) = inr (makes, driven.streams)
-    left (Ok a) = tt
-
 -- ---- a check
-pub check-worked : {E : Type 0} (Streams : Option Refusal → Type 0) (begun end : CheckParts) (old new : View) (x : Checked) (result : Result Answer E) → Driven Streams old new (CheckWent begun end) → end.ended ≡ Some x → ((points : List Point) → CheckWent begun end points → x ≡ checked_by begun.ask points) → IfOk result (λ a. a ≡ checked_answer x) → Worked Streams (Checks begun.ask) old new result
-check-worked {E = E} Streams begun end old new x result driven ended is answer = record { points = driven.points; chain = driven.chain; done = done result answer; left = left result }
+pub check-worked : {E : Type 0} (Streams : Option Refusal → Type 0) (begun end : CheckParts) (old new : Timed) (x : Checked) (result : Result Answer E) → Driven Streams old new (CheckWent begun end) → end.ended ≡ Some x → ((points : List Point) → CheckWent begun end points → x ≡ checked_by begun.ask points) → IfOk result (λ a. a ≡ checked_answer x) → Worked Streams (Checks begun.ask) old new result
+check-worked Streams begun end old new x result driven ended is answer =
+    driven-worked Streams (Checks begun.ask) old new (CheckWent begun end) [] (checked_answer x) result driven makes (ap (λ x. checked_answer x) (is driven.points driven.went)) tt answer
   where
     makes : Makes (Checks begun.ask) driven.points
     makes = (x, subst (λ ask. CheckedBy ask (Some x) driven.points) driven.went.same (subst (λ ended. CheckedBy end.ask ended driven.points) ended driven.went.lead))
-
-    done : (result : Result Answer E) → IfOk result (λ a. a ≡ checked_answer x) → IfOk result (λ a. (read : List ℕ) × IsDone Streams old.told_bytes (Checks begun.ask) driven.points read a)
-    done (Err e) answer = tt
-    done (Ok a) answer = ([], record { makes = makes; answers = answer ∙ ap (λ x. checked_answer x) (is driven.points driven.went); reads = tt; streams = driven.streams })
-
-    left : (result : Result Answer E) → IfErr result (λ e. IsLeft Streams (Checks begun.ask) driven.points)
-    left (Err e) = inr (makes, driven.streams)
-    left (Ok a) = tt

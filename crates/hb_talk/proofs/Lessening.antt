@@ -97,7 +97,7 @@ less-input talk s' new left rest ended ended' gives reads few = go reads
         let is : work_left new ≡ 4 * (2 ^ 62 - talk.taken) + 2 * length s'.waiting + is_between s'.place + 0 = ap work_left closed.2 in
         omega (arith, fewer, was_open, is)
     go (inr came) =
-        let is : work_left new ≡ 4 * (2 ^ 62 - (talk.taken + length came.0)) + 2 * length (s'.waiting ++ came.0) + is_between s'.place + is_open s'.closed = ap work_left came.4 in
+        let is : work_left new ≡ 4 * (2 ^ 62 - (talk.taken + length came.0)) + 2 * length (s'.waiting ++ came.0) + is_between s'.place + is_open s'.closed = ap work_left came.5 in
         let size = length-append s'.waiting came.0 in
-        let taken : new.taken ≡ talk.taken + length came.0 = ap (λ (t : TalkParts). t.taken) came.4 in
+        let taken : new.taken ≡ talk.taken + length came.0 = ap (λ (t : TalkParts). t.taken) came.5 in
         omega (arith, fewer, was_open, is_open', is, size, taken, few, came.1)

@@ -52,7 +52,7 @@ none-closes g r same read open_ closes =
     let other = subst (λ h. Closes h r.body) same closes in
     open_ (subst (IsLast g.head) (sym (one-content g.head r.body g.content other.0 read (λ long. open_ (inr long)) other.1)) other.2)
 
-each-open : (gs : List Given) (rs : List Request) → AreRead gs rs → AllByRecursion StaysOpen gs → AllByRecursion (λ r. IsRequest IsReadText r × ¬ (Closes r.head r.body)) rs
+pub each-open : (gs : List Given) (rs : List Request) → AreRead gs rs → AllByRecursion StaysOpen gs → AllByRecursion (λ r. IsRequest IsReadText r × ¬ (Closes r.head r.body)) rs
 each-open [] [] are open_ = tt
 each-open [] (r ∷ rs) are open_ = absurd are
 each-open (g ∷ gs) [] are open_ = absurd are

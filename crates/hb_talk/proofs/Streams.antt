@@ -1,7 +1,6 @@
 -- What is taken and written piece by piece.
-use Rattle.std.proofs.Common.{◌+◌, ℕ, List, [], ◌++◌, length, take, Option, Some, None, option_map, refl, sym, ap, subst, ◌∙◌, append_assoc, append-nil}
-use Rattle.std.proofs.Math.Seq.{take-append-add}
-use Rattle.hb_outside.specs.Streams.{Gives, Writes, WritesPart}
+use Rattle.std.proofs.Common.{ℕ, List, [], ◌++◌, Option, Some, None, option_map, refl, sym, ap, subst, ◌∙◌, append_assoc, append-nil}
+use Rattle.hb_outside.specs.Streams.{Gives, Writes}
 
 pub Gives-append : (a b c : Option (List ℕ)) (xs ys : List ℕ) → Gives a b xs → Gives b c ys → Gives a c (xs ++ ys)
 Gives-append None b c xs ys first second = subst (λ b. Gives b c ys) first second
@@ -20,7 +19,3 @@ Writes-append (Some bytes) b c xs ys first second = second ∙ ap (option_map (�
 pub Writes-none : (a : Option (List ℕ)) → Writes a a []
 Writes-none None = refl
 Writes-none (Some bytes) = ap Some (sym (append-nil bytes))
-
--- all of a text and a part of the next are a part of both
-pub WritesPart-append : (a b c : Option (List ℕ)) (xs ys : List ℕ) → Writes a b xs → WritesPart b c ys → WritesPart a c (xs ++ ys)
-WritesPart-append a b c xs ys first part = (length xs + part.0, subst (λ text. Writes a c text) (sym (take-append-add xs ys part.0)) (Writes-append a b c xs (take part.0 ys) first part.1))

@@ -12,13 +12,13 @@ use Rattle.hb_http.specs.declared.places.Place.TheVariants.{Between, Counted, Ch
 use Rattle.hb_http.proofs.Each.{all_push}
 use Rattle.hb_http.proofs.RequestLaws.{HasNoHead-no_request}
 use Rattle.hb_desk.specs.Chains.{Chain}
-use Rattle.hb_desk.specs.Clause.{View}
+use Rattle.hb_desk.specs.Timed.{Timed}
 use Rattle.hb_desk.specs.Points.{Point}
 use Rattle.hb_desk.specs.declared.refusals.Refusal.{Refusal}
 use Rattle.hb_desk.proofs.Chains.{chain-append, chain-bytes}
 use Rattle.hb_talk.specs.Bodies.{AreRead, Closes, IsLast, IsReadText, IsTooLong}
 use Rattle.hb_talk.specs.Progress.{Comes, GoesOn, NextTurn, Progress, Reads, RefusesLong, TalkParts, too_long_text}
-use Rattle.hb_talk.specs.Talks.{AtDesk, GoOn, HasCause, HasLeft, HasRefusal, IsMalformedRest, IsOpen, IsOverFirst, Moment, RefusesRest, Talked, Wrote}
+use Rattle.hb_talk.specs.Talks.{AreOpen, AtDesk, GoOn, HasCause, HasLeft, HasRefusal, IsMalformedRest, IsOpen, IsOverFirst, Moment, ReadNoFurther, RefusesRest, Talked, WantsMore, Wrote}
 use Rattle.hb_talk.specs.Talks as talks
 use Rattle.hb_talk.specs.Texts.{answer_text}
 use Rattle.hb_talk.specs.Turns.{Answers, ClosesBy, LeavesUnanswered, Turn, given_by, points_of, turns_text}
@@ -28,11 +28,11 @@ use Rattle.hb_talk.specs.declared.ends.TalkEnd.{TalkEnd}
 use Rattle.hb_talk.specs.declared.ends.TalkEnd.TheVariants as end
 use Rattle.hb_talk.specs.declared.ends.Turned.{Turned}
 use Rattle.hb_talk.specs.declared.ends.Turned.TheVariants.{More, Ended}
-use Rattle.hb_talk.proofs.Requests.{OneMore, StaysOpen, all-and, all-of, all-open, before, begins-rest, begun-some, front-and, front-of}
+use Rattle.hb_talk.proofs.Requests.{OneMore, StaysOpen, all-and, all-of, all-open, before, begins-rest, begun-some, each-open, front-and, front-of}
 use Rattle.hb_talk.proofs.Cuts.{headless-formed, rest-open}
 use Rattle.hb_talk.proofs.Rests.{IsShort, few-headers, malformed-rest, many-none, rest-bad, rest-none}
 use Rattle.hb_talk.proofs.Served.{fails-by, refused-turn}
-use Rattle.hb_talk.proofs.Streams.{Gives-append, Gives-none, Writes-append, Writes-none, WritesPart-append}
+use Rattle.hb_talk.proofs.Streams.{Gives-append, Gives-none, Writes-append, Writes-none}
 
 -- ---- lists of turns
 given_by-push : (turns : List Turn) (t : Turn) → given_by (turns ++ t ∷ []) ≡ given_by turns ++ t.given ∷ []
@@ -48,9 +48,6 @@ points_of-push [] t = sym (append-nil t.points)
 points_of-push (u ∷ turns) t = ap (λ points. points ++ u.points) (points_of-push turns t) ∙ append_assoc t.points (points_of turns) u.points
 
 -- ---- turns that leave the connection open
-abbrev AreOpen : List Turn → Type 0
-AreOpen = AllByRecursion (λ t. t.closes ≡ false)
-
 open-on : (turns : List Turn) → AreOpen turns → GoOn turns
 open-on [] open_ = tt
 open-on (t ∷ []) open_ = tt
@@ -69,6 +66,7 @@ progress-start Streams now talk fresh coming taken = record {
   gone = [];
   gives = subst (λ (s : Standing). Gives now.left now.left s.waiting) (sym fresh) (Gives-none now.left);
   count = taken ∙ ap (λ (s : Standing). length s.waiting) (sym fresh);
+  no_further = inl (ap (λ (s : Standing). s.waiting) fresh);
   reads = subst (λ (s : Standing). HasRead [] None [] s.place) (sym fresh) (record { whole = []; begun = []; text = refl; are_whole = refl; is_begun = refl });
   comes = subst (λ c. Comes c None) (sym coming) tt;
   open_ = tt;
@@ -102,6 +100,7 @@ module _ (Streams : Option Refusal → Type 0) (start now : Moment) (talk : Talk
     gone = so_far.gone ++ gone;
     gives = subst (λ b. Gives start.left now.left b) (sym (came gone s' text)) so_far.gives;
     count = so_far.count ∙ ap (λ b. length b) (sym (came gone s' text));
+    no_further = subst ReadNoFurther (sym (came gone s' text)) so_far.no_further;
     reads = reads;
     comes = comes;
     open_ = so_far.open_;
@@ -110,40 +109,6 @@ module _ (Streams : Option Refusal → Type 0) (start now : Moment) (talk : Talk
     ended = λ is. so_far.ended (sym closed ∙ is);
     desk = so_far.desk;
   }
-
-  -- ---- a read
-  pub read-on : (talk' : TalkParts) (rest : Option (List ℕ)) (ended : Bool) → Reads talk talk' now.left rest now.ended ended More → Progress Streams start (record { view = now.view; left = rest; ended = ended; held = now.held }) talk'
-  read-on talk' rest ended (inl closed) = subst (Progress Streams start (record { view = now.view; left = rest; ended = ended; held = now.held })) (sym closed.2) (record {
-    turns = so_far.turns;
-    given = so_far.given;
-    gone = so_far.gone;
-    gives = subst (λ b. Gives start.left rest b) (append-nil (so_far.gone ++ talk.standing.waiting)) (Gives-append start.left now.left rest (so_far.gone ++ talk.standing.waiting) [] so_far.gives closed.0);
-    count = so_far.count;
-    reads = so_far.reads;
-    comes = so_far.comes;
-    open_ = so_far.open_;
-    each = so_far.each;
-    written = so_far.written;
-    ended = λ is. closed.1;
-    desk = so_far.desk;
-  })
-  read-on talk' rest ended (inr came) =
-      let piece = came.0 in
-      let joined : so_far.gone ++ (talk.standing.waiting ++ piece) ≡ (so_far.gone ++ talk.standing.waiting) ++ piece = sym (append_assoc so_far.gone talk.standing.waiting piece) in
-      subst (Progress Streams start (record { view = now.view; left = rest; ended = ended; held = now.held })) (sym came.4) (record {
-        turns = so_far.turns;
-        given = so_far.given;
-        gone = so_far.gone;
-        gives = subst (λ b. Gives start.left rest b) (sym joined) (Gives-append start.left now.left rest (so_far.gone ++ talk.standing.waiting) piece so_far.gives came.2);
-        count = ap (λ n. n + length piece) so_far.count ∙ sym (length-append (so_far.gone ++ talk.standing.waiting) piece) ∙ ap (λ b. length b) (sym joined);
-        reads = so_far.reads;
-        comes = so_far.comes;
-        open_ = so_far.open_;
-        each = so_far.each;
-        written = so_far.written;
-        ended = λ is. came.3 ∙ so_far.ended is;
-        desk = so_far.desk;
-      })
 
   -- ---- ends without a further answer
   abbrev pub bytes : List ℕ
@@ -156,7 +121,7 @@ module _ (Streams : Option Refusal → Type 0) (start now : Moment) (talk : Talk
   few most = subst (λ n. n ≤ 2 ^ 62) so_far.count most
 
   -- no further request stands in the bytes
-  ended-none : (e : TalkEnd) → talk.taken ≤ 2 ^ 62 → HasNoRequest IsReadText rest → ((rs : List Request) → RequestsOf IsReadText Closes bytes rs rest → talks.Reads e bytes rs rest) → (Writes start.held now.held (turns_text so_far.turns) → Wrote e start.held now.held (turns_text so_far.turns)) → HasCause e now.ended bytes so_far.turns rest → HasLeft Streams e rest [] → HasRefusal e rest None → Talked Streams start now e
+  ended-none : (e : TalkEnd) → talk.taken ≤ 2 ^ 62 → HasNoRequest IsReadText rest → ((rs : List Request) → RequestsOf IsReadText Closes bytes rs rest → talks.Reads e bytes rs rest) → (Writes start.held now.held (turns_text so_far.turns) → Wrote e start.held now.held so_far.turns None) → HasCause e now.ended bytes so_far.turns rest → HasLeft Streams e rest [] → HasRefusal e rest None → Talked Streams start now e
   ended-none e most none reads wrote cause left refused =
       let all = all-of (given_by so_far.turns) so_far.given so_far.gone talk.standing.waiting talk.standing.place stay-open so_far.reads none in
       record {
@@ -167,6 +132,7 @@ module _ (Streams : Option Refusal → Type 0) (start now : Moment) (talk : Talk
         points = [];
         gives = so_far.gives;
         few = few most;
+        no_further = so_far.no_further;
         given = all.given;
         reads = reads all.requests all.reads;
         each = so_far.each;
@@ -180,7 +146,7 @@ module _ (Streams : Option Refusal → Type 0) (start now : Moment) (talk : Talk
       }
 
   -- a rest that is refused
-  pub refused-ends : (held : Option (List ℕ)) (text : List ℕ) → talk.taken ≤ 2 ^ 62 → HasNoRequest IsReadText rest → RefusesRest rest text → Writes now.held held text → Talked Streams start (record { view = now.view; left = now.left; ended = now.ended; held = held }) end.Bad
+  pub refused-ends : (held : Option (List ℕ)) (text : List ℕ) → talk.taken ≤ 2 ^ 62 → HasNoRequest IsReadText rest → RefusesRest rest text → Writes now.held held text → Talked Streams start (record { desk = now.desk; left = now.left; ended = now.ended; held = held }) end.Bad
   refused-ends held text most none refuses writes =
       let all = all-of (given_by so_far.turns) so_far.given so_far.gone talk.standing.waiting talk.standing.place stay-open so_far.reads none in
       record {
@@ -191,6 +157,7 @@ module _ (Streams : Option Refusal → Type 0) (start now : Moment) (talk : Talk
         points = [];
         gives = so_far.gives;
         few = few most;
+        no_further = so_far.no_further;
         given = all.given;
         reads = all.reads;
         each = so_far.each;
@@ -203,7 +170,7 @@ module _ (Streams : Option Refusal → Type 0) (start now : Moment) (talk : Talk
         desk = so_far.desk;
       }
 
-  pub refused-part : (held : Option (List ℕ)) (text : List ℕ) → talk.taken ≤ 2 ^ 62 → HasNoRequest IsReadText rest → RefusesRest rest text → WritesPart now.held held text → Talked Streams start (record { view = now.view; left = now.left; ended = now.ended; held = held }) end.WriteFault
+  pub refused-part : (held : Option (List ℕ)) (text : List ℕ) → talk.taken ≤ 2 ^ 62 → HasNoRequest IsReadText rest → RefusesRest rest text → WritesPart now.held held text → Talked Streams start (record { desk = now.desk; left = now.left; ended = now.ended; held = held }) end.WriteFault
   refused-part held text most none refuses part =
       let front = front-of (given_by so_far.turns) so_far.given so_far.gone talk.standing.waiting talk.standing.place stay-open so_far.reads in
       record {
@@ -214,12 +181,13 @@ module _ (Streams : Option Refusal → Type 0) (start now : Moment) (talk : Talk
         points = [];
         gives = so_far.gives;
         few = few most;
+        no_further = so_far.no_further;
         given = front.given;
         reads = front.begin;
         each = so_far.each;
         goes_on = open-on so_far.turns so_far.open_;
         refusal = Some text;
-        written = WritesPart-append start.held now.held held (turns_text so_far.turns) text so_far.written part;
+        written = (now.held, so_far.written, part);
         refused = (none, refuses);
         cause = tt;
         left = refl;
@@ -257,6 +225,48 @@ module _ (Streams : Option Refusal → Type 0) (start now : Moment) (talk : Talk
   open-left : HoldsNoPart talk.standing.place talk.standing.waiting → IsOpen rest
   open-left none = rest-open talk.standing.place so_far.given so_far.reads.begun talk.standing.waiting so_far.reads.is_begun none
 
+  -- ---- a read
+  -- where the session holds no part, more is wanted
+  more-wanted : HoldsNoPart talk.standing.place talk.standing.waiting → WantsMore bytes
+  more-wanted none =
+      let all = all-of (given_by so_far.turns) so_far.given so_far.gone talk.standing.waiting talk.standing.place stay-open so_far.reads (none-left none) in
+      record { requests = all.requests; rest = rest; reads = all.reads; stays = each-open (given_by so_far.turns) all.requests all.given stay-open; may = open-left none }
+
+  pub read-on : (talk' : TalkParts) (left' : Option (List ℕ)) (ended : Bool) → HoldsNoPart talk.standing.place talk.standing.waiting → Reads talk talk' now.left left' now.ended ended More → Progress Streams start (record { desk = now.desk; left = left'; ended = ended; held = now.held }) talk'
+  read-on talk' left' ended none (inl closed) = subst (Progress Streams start (record { desk = now.desk; left = left'; ended = ended; held = now.held })) (sym closed.2) (record {
+    turns = so_far.turns;
+    given = so_far.given;
+    gone = so_far.gone;
+    gives = subst (λ b. Gives start.left left' b) (append-nil (so_far.gone ++ talk.standing.waiting)) (Gives-append start.left now.left left' (so_far.gone ++ talk.standing.waiting) [] so_far.gives closed.0);
+    count = so_far.count;
+    no_further = so_far.no_further;
+    reads = so_far.reads;
+    comes = so_far.comes;
+    open_ = so_far.open_;
+    each = so_far.each;
+    written = so_far.written;
+    ended = λ is. closed.1;
+    desk = so_far.desk;
+  })
+  read-on talk' left' ended none (inr came) =
+      let piece = came.0 in
+      let joined : so_far.gone ++ (talk.standing.waiting ++ piece) ≡ (so_far.gone ++ talk.standing.waiting) ++ piece = sym (append_assoc so_far.gone talk.standing.waiting piece) in
+      subst (Progress Streams start (record { desk = now.desk; left = left'; ended = ended; held = now.held })) (sym came.5) (record {
+        turns = so_far.turns;
+        given = so_far.given;
+        gone = so_far.gone;
+        gives = subst (λ b. Gives start.left left' b) (sym joined) (Gives-append start.left now.left left' (so_far.gone ++ talk.standing.waiting) piece so_far.gives came.3);
+        no_further = inr (bytes, piece, joined, came.2, more-wanted none);
+        count = ap (λ n. n + length piece) so_far.count ∙ sym (length-append (so_far.gone ++ talk.standing.waiting) piece) ∙ ap (λ b. length b) (sym joined);
+        reads = so_far.reads;
+        comes = so_far.comes;
+        open_ = so_far.open_;
+        each = so_far.each;
+        written = so_far.written;
+        ended = λ is. came.4 ∙ so_far.ended is;
+        desk = so_far.desk;
+      })
+
   pub input-ends : talk.taken ≤ 2 ^ 62 → talk.standing.closed ≡ true → HoldsNoPart talk.standing.place talk.standing.waiting → talk.standing.place ≡ Between → talk.standing.waiting ≡ [] → Talked Streams start now end.Closed
   input-ends most closed none at empty = ended-none end.Closed most (none-left none) (λ rs h. h) (λ h. h) (rest-waits at ∙ empty, inl (so_far.ended closed)) refl tt
 
@@ -278,12 +288,12 @@ module _ (Streams : Option Refusal → Type 0) (start now : Moment) (talk : Talk
       left = go talk.standing.place so_far.given refl so_far.reads.is_begun
 
   -- a read that gives no byte
-  still : (left' : Option (List ℕ)) (ended' : Bool) (e : TalkEnd) → left' ≡ now.left → ended' ≡ now.ended → Talked Streams start now e → Talked Streams start (record { view = now.view; left = left'; ended = ended'; held = now.held }) e
-  still left' ended' e left ended talked = subst (λ left. Talked Streams start (record { view = now.view; left = left; ended = ended'; held = now.held }) e) (sym left) (subst (λ ended. Talked Streams start (record { view = now.view; left = now.left; ended = ended; held = now.held }) e) (sym ended) talked)
+  still : (left' : Option (List ℕ)) (ended' : Bool) (e : TalkEnd) → left' ≡ now.left → ended' ≡ now.ended → Talked Streams start now e → Talked Streams start (record { desk = now.desk; left = left'; ended = ended'; held = now.held }) e
+  still left' ended' e left ended talked = subst (λ left. Talked Streams start (record { desk = now.desk; left = left; ended = ended'; held = now.held }) e) (sym left) (subst (λ ended. Talked Streams start (record { desk = now.desk; left = now.left; ended = ended; held = now.held }) e) (sym ended) talked)
 
-  pub read-ends : (talk' : TalkParts) (left' : Option (List ℕ)) (ended' : Bool) (e : TalkEnd) → talk.taken ≤ 2 ^ 62 → HoldsNoPart talk.standing.place talk.standing.waiting → Reads talk talk' now.left left' now.ended ended' (Ended e) → Talked Streams start (record { view = now.view; left = left'; ended = ended'; held = now.held }) e
-  read-ends talk' left' ended' end.Long most none reads = still left' ended' end.Long reads.0 reads.1 (ended-none end.Long most (none-left none) (λ rs h. h) (λ h. h) (sym so_far.count ∙ reads.2, open-left none) refl tt)
-  read-ends talk' left' ended' end.ReadFault most none reads = still left' ended' end.ReadFault reads.0 reads.1 (ended-none end.ReadFault most (none-left none) (λ rs h. h) (λ h. h) (open-left none) refl tt)
+  pub read-ends : (talk' : TalkParts) (left' : Option (List ℕ)) (ended' : Bool) (e : TalkEnd) → talk.taken ≤ 2 ^ 62 → HoldsNoPart talk.standing.place talk.standing.waiting → Reads talk talk' now.left left' now.ended ended' (Ended e) → Talked Streams start (record { desk = now.desk; left = left'; ended = ended'; held = now.held }) e
+  read-ends talk' left' ended' end.Long most none reads = still left' ended' end.Long reads.0 reads.1 (ended-none end.Long most (none-left none) (λ rs h. h) (λ h. h) (sym so_far.count ∙ reads.2, open-left none, so_far.open_) refl tt)
+  read-ends talk' left' ended' end.ReadFault most none reads = still left' ended' end.ReadFault reads.0 reads.1 (ended-none end.ReadFault most (none-left none) (λ rs h. h) (λ h. h) (open-left none, so_far.open_) refl tt)
   read-ends talk' left' ended' end.Closed most none reads = absurd reads
   read-ends talk' left' ended' end.Cut most none reads = absurd reads
   read-ends talk' left' ended' end.Bad most none reads = absurd reads
@@ -292,7 +302,7 @@ module _ (Streams : Option Refusal → Type 0) (start now : Moment) (talk : Talk
 
   -- ---- memory is wanting
   -- where nothing was done at the desk
-  pub memory-here : (held : Option (List ℕ)) → talk.taken ≤ 2 ^ 62 → held ≡ now.held → Talked Streams start (record { view = now.view; left = now.left; ended = now.ended; held = held }) end.Memory
+  pub memory-here : (held : Option (List ℕ)) → talk.taken ≤ 2 ^ 62 → held ≡ now.held → Talked Streams start (record { desk = now.desk; left = now.left; ended = now.ended; held = held }) end.Memory
   memory-here held most same =
       let front = front-of (given_by so_far.turns) so_far.given so_far.gone talk.standing.waiting talk.standing.place stay-open so_far.reads in
       record {
@@ -303,6 +313,7 @@ module _ (Streams : Option Refusal → Type 0) (start now : Moment) (talk : Talk
         points = [];
         gives = so_far.gives;
         few = few most;
+        no_further = so_far.no_further;
         given = front.given;
         reads = front.begin;
         each = so_far.each;
@@ -316,8 +327,8 @@ module _ (Streams : Option Refusal → Type 0) (start now : Moment) (talk : Talk
       }
 
   -- and of a request that is left without its answer
-  pub memory-ends : (g : Given) (view : View) (held : Option (List ℕ)) → OneMore (given_by so_far.turns) g bytes → talk.taken ≤ 2 ^ 62 → (points : List Point) × Chain now.view points view × LeavesUnanswered Streams g points → held ≡ now.held → Talked Streams start (record { view = view; left = now.left; ended = now.ended; held = held }) end.Memory
-  memory-ends g view held one most made same =
+  pub memory-ends : (g : Given) (desk : Timed) (held : Option (List ℕ)) → OneMore (given_by so_far.turns) g bytes → talk.taken ≤ 2 ^ 62 → (points : List Point) × Chain now.desk points desk × LeavesUnanswered Streams g points → held ≡ now.held → Talked Streams start (record { desk = desk; left = now.left; ended = now.ended; held = held }) end.Memory
+  memory-ends g desk held one most made same =
       let front = before (given_by so_far.turns) g bytes stay-open one in
       record {
         turns = so_far.turns;
@@ -327,6 +338,7 @@ module _ (Streams : Option Refusal → Type 0) (start now : Moment) (talk : Talk
         points = made.0;
         gives = so_far.gives;
         few = few most;
+        no_further = so_far.no_further;
         given = front.given;
         reads = front.begin;
         each = so_far.each;
@@ -343,33 +355,34 @@ module _ (Streams : Option Refusal → Type 0) (start now : Moment) (talk : Talk
           is = ((one.same, one.read, one.is_request), tt);
           left = made.2;
         });
-        desk = record { chain = chain-append start.view now.view view (points_of so_far.turns) made.0 so_far.desk.chain made.1; answers = so_far.desk.answers };
+        desk = record { chain = chain-append start.desk now.desk desk (points_of so_far.turns) made.0 so_far.desk.chain made.1; answers = so_far.desk.answers };
       }
 
   -- ---- an answer
-  module _ (g : Given) (t : Turn) (view : View) (held : Option (List ℕ)) (next : NextTurn Streams now.view view g t) where
+  module _ (g : Given) (t : Turn) (desk : Timed) (held : Option (List ℕ)) (next : NextTurn Streams now.desk desk g t) where
     abbrev turns' : List Turn
     turns' = so_far.turns ++ t ∷ []
 
     given-is : given_by so_far.turns ++ g ∷ [] ≡ given_by turns'
     given-is = ap (λ g. given_by so_far.turns ++ g ∷ []) (sym next.given) ∙ sym (given_by-push so_far.turns t)
 
-    desk-next : AtDesk Streams start.view view turns' []
+    desk-next : AtDesk Streams start.desk desk turns' []
     desk-next = record {
-      chain = subst (λ points. Chain start.view points view) (sym (points_of-push so_far.turns t)) (chain-append start.view now.view view (points_of so_far.turns) t.points so_far.desk.chain next.chain);
-      answers = all_push (Answers Streams start.view.told_bytes) so_far.turns t so_far.desk.answers (subst (λ told. Answers Streams told t) (chain-bytes start.view now.view (points_of so_far.turns) so_far.desk.chain) next.answers);
+      chain = subst (λ points. Chain start.desk points desk) (sym (points_of-push so_far.turns t)) (chain-append start.desk now.desk desk (points_of so_far.turns) t.points so_far.desk.chain next.chain);
+      answers = all_push (Answers Streams start.desk.view.told_bytes) so_far.turns t so_far.desk.answers (subst (λ told. Answers Streams told t) (chain-bytes start.desk now.desk (points_of so_far.turns) so_far.desk.chain) next.answers);
     }
 
     written-next : Writes now.held held (answer_text t.closes t.answer) → Writes start.held held (turns_text turns')
     written-next writes = subst (Writes start.held held) (sym (turns_text-push so_far.turns t)) (Writes-append start.held now.held held (turns_text so_far.turns) (answer_text t.closes t.answer) so_far.written writes)
 
-    pub answered-on : (gone : List ℕ) (s' : Standing) → talk.standing.waiting ≡ gone ++ s'.waiting → HasRead (given_by so_far.turns ++ g ∷ []) None (so_far.gone ++ gone) s'.place → t.closes ≡ false → Writes now.held held (answer_text t.closes t.answer) → s'.closed ≡ talk.standing.closed → Progress Streams start (record { view = view; left = now.left; ended = now.ended; held = held }) (record { standing = s'; coming = None; taken = talk.taken })
+    pub answered-on : (gone : List ℕ) (s' : Standing) → talk.standing.waiting ≡ gone ++ s'.waiting → HasRead (given_by so_far.turns ++ g ∷ []) None (so_far.gone ++ gone) s'.place → t.closes ≡ false → Writes now.held held (answer_text t.closes t.answer) → s'.closed ≡ talk.standing.closed → Progress Streams start (record { desk = desk; left = now.left; ended = now.ended; held = held }) (record { standing = s'; coming = None; taken = talk.taken })
     answered-on gone s' text reads open_ writes closed = record {
       turns = turns';
       given = None;
       gone = so_far.gone ++ gone;
       gives = subst (λ b. Gives start.left now.left b) (sym (came gone s' text)) so_far.gives;
       count = so_far.count ∙ ap (λ b. length b) (sym (came gone s' text));
+      no_further = subst ReadNoFurther (sym (came gone s' text)) so_far.no_further;
       reads = subst (λ gs. HasRead gs None (so_far.gone ++ gone) s'.place) given-is reads;
       comes = tt;
       open_ = all_push (λ t. t.closes ≡ false) so_far.turns t so_far.open_ open_;
@@ -386,7 +399,7 @@ module _ (Streams : Option Refusal → Type 0) (start now : Moment) (talk : Talk
         go true is by = by
         go false is by = cc is
 
-    pub answered-last : OneMore (given_by so_far.turns) g bytes → talk.taken ≤ 2 ^ 62 → t.closes ≡ true → Writes now.held held (answer_text t.closes t.answer) → Talked Streams start (record { view = view; left = now.left; ended = now.ended; held = held }) end.Closed
+    pub answered-last : OneMore (given_by so_far.turns) g bytes → talk.taken ≤ 2 ^ 62 → t.closes ≡ true → Writes now.held held (answer_text t.closes t.answer) → Talked Streams start (record { desk = desk; left = now.left; ended = now.ended; held = held }) end.Closed
     answered-last one most closes writes =
         let all = all-and (given_by so_far.turns) g bytes stay-open one (last-is closes) in
         record {
@@ -397,6 +410,7 @@ module _ (Streams : Option Refusal → Type 0) (start now : Moment) (talk : Talk
           points = [];
           gives = so_far.gives;
           few = few most;
+          no_further = so_far.no_further;
           given = subst (λ gs. AreRead gs all.requests) given-is all.given;
           reads = all.reads;
           each = all_push ClosesBy so_far.turns t so_far.each next.closes;
@@ -409,7 +423,7 @@ module _ (Streams : Option Refusal → Type 0) (start now : Moment) (talk : Talk
           desk = desk-next;
         }
 
-    pub answered-part : OneMore (given_by so_far.turns) g bytes → talk.taken ≤ 2 ^ 62 → WritesPart now.held held (answer_text t.closes t.answer) → Talked Streams start (record { view = view; left = now.left; ended = now.ended; held = held }) end.WriteFault
+    pub answered-part : OneMore (given_by so_far.turns) g bytes → talk.taken ≤ 2 ^ 62 → WritesPart now.held held (answer_text t.closes t.answer) → Talked Streams start (record { desk = desk; left = now.left; ended = now.ended; held = held }) end.WriteFault
     answered-part one most part =
         let front = front-and (given_by so_far.turns) g bytes stay-open one in
         record {
@@ -420,13 +434,14 @@ module _ (Streams : Option Refusal → Type 0) (start now : Moment) (talk : Talk
           points = [];
           gives = so_far.gives;
           few = few most;
+          no_further = so_far.no_further;
           given = subst (λ gs. AreRead gs front.requests) given-is front.given;
           reads = front.begin;
           each = all_push ClosesBy so_far.turns t so_far.each next.closes;
           goes_on = open-then so_far.turns t so_far.open_;
           refusal = None;
           refused = tt;
-          written = subst (WritesPart start.held held) (sym (turns_text-push so_far.turns t)) (WritesPart-append start.held now.held held (turns_text so_far.turns) (answer_text t.closes t.answer) so_far.written part);
+          written = (so_far.turns, t, refl, now.held, so_far.written, part);
           cause = tt;
           left = refl;
           desk = desk-next;
@@ -434,13 +449,13 @@ module _ (Streams : Option Refusal → Type 0) (start now : Moment) (talk : Talk
 
   -- ---- a request that is too long
   -- it is refused, or why not
-  pub refused-long : (g : Given) (bare : Bool) (held : Option (List ℕ)) (new : TalkParts) (turned : Turned) → talk.taken ≤ 2 ^ 62 → IsTooLong g.head g.content → MatchBool bare (IsBare g.head) (¬ (IsBare g.head)) → OneMore (given_by so_far.turns) g bytes → RefusesLong bare now.held held turned → GoesOn Streams start (record { view = now.view; left = now.left; ended = now.ended; held = held }) new turned
+  pub refused-long : (g : Given) (bare : Bool) (held : Option (List ℕ)) (new : TalkParts) (turned : Turned) → talk.taken ≤ 2 ^ 62 → IsTooLong g.head g.content → MatchBool bare (IsBare g.head) (¬ (IsBare g.head)) → OneMore (given_by so_far.turns) g bytes → RefusesLong bare now.held held turned → GoesOn Streams start (record { desk = now.desk; left = now.left; ended = now.ended; held = held }) new turned
   refused-long g bare held new More most long bare_is one refuses = absurd refuses
   refused-long g bare held new (Ended e) most long bare_is one (inl told) =
-      subst (Talked Streams start (record { view = now.view; left = now.left; ended = now.ended; held = held })) (sym told.0) (answered-last g _ now.view held (refused-turn Streams now.view g bare long bare_is) one most refl told.1)
+      subst (Talked Streams start (record { desk = now.desk; left = now.left; ended = now.ended; held = held })) (sym told.0) (answered-last g _ now.desk held (refused-turn Streams now.desk g bare long bare_is) one most refl told.1)
   refused-long g bare held new (Ended e) most long bare_is one (inr fails) =
-      fails-by (Talked Streams start (record { view = now.view; left = now.left; ended = now.ended; held = held })) (too_long_text bare) now.held held e fails
-      (λ part. answered-part g _ now.view held (refused-turn Streams now.view g bare long bare_is) one most part)
+      fails-by (Talked Streams start (record { desk = now.desk; left = now.left; ended = now.ended; held = held })) (too_long_text bare) now.held held e fails
+      (λ part. answered-part g _ now.desk held (refused-turn Streams now.desk g bare long bare_is) one most part)
       (λ same. memory-here held most same)
 
 -- ---- where memory was wanting before the first turn

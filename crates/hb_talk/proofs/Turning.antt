@@ -11,7 +11,7 @@ use Rattle.hb_http.specs.declared.parts.Part.{Part}
 use Rattle.hb_http.specs.declared.parts.Part.TheVariants.{Head as HeadPart, Body, BodyEnd, NeedInput, InputEnd}
 use Rattle.hb_http.specs.declared.places.Place.{Place}
 use Rattle.hb_http.specs.declared.places.Place.TheVariants.{Between, Counted, Chunked}
-use Rattle.hb_desk.specs.Clause.{View}
+use Rattle.hb_desk.specs.Timed.{Timed}
 use Rattle.hb_desk.specs.declared.refusals.Refusal.{Refusal}
 use Rattle.hb_talk.specs.Bodies.{IsReadText, IsTooLong}
 use Rattle.hb_talk.specs.Comings.{ComesOf, tells_too_long}
@@ -75,7 +75,7 @@ module _ (Streams : Option Refusal → Type 0) (start now : Moment) (talk : Talk
 
   -- and a moment at which more is written
   abbrev pub holding : Option (List ℕ) → Moment
-  holding held = record { view = now.view; left = now.left; ended = now.ended; held = held }
+  holding held = record { desk = now.desk; left = now.left; ended = now.ended; held = held }
 
   -- the request that was begun is too long, and is refused
   long-turn : (g : Given) (gone : List ℕ) (s' : Standing) (bare : Bool) (held : Option (List ℕ)) (new : TalkParts) (turned : Turned) → talk.standing.waiting ≡ gone ++ s'.waiting → HasRead (given_by so_far.turns) (Some g) (so_far.gone ++ gone) s'.place → IsTooLong g.head g.content → MatchBool bare (IsBare g.head) (¬ (IsBare g.head)) → RefusesLong bare now.held held turned → GoesOn Streams start (holding held) new turned
@@ -145,8 +145,8 @@ module _ (Streams : Option Refusal → Type 0) (start now : Moment) (talk : Talk
       go (inr to) = gathered to.0 (subst (λ given. Comes (Some to.0) given) reads.follows.1 (subst (λ coming. Comes coming so_far.given) to.1 so_far.comes)) to.2
 
   -- a request came to its end, and was answered
-  pub end-turn : (s' : Standing) (new : TalkParts) (turned : Turned) (view : View) (held : Option (List ℕ)) → Gives talk.standing (Ok BodyEnd) s' → ReadsOn (given_by so_far.turns) so_far.given so_far.gone talk.standing (Ok BodyEnd) s' → new ≡ record { standing = s'; coming = None; taken = talk.taken } → ((g : Given) → Comes talk.coming (Some g) → Answered Streams now.view view now.held held g turned) → GoesOn Streams start (record { view = view; left = now.left; ended = now.ended; held = held }) new turned
-  end-turn s' new turned view held gives reads is answers = go turned (answers g comes)
+  pub end-turn : (s' : Standing) (new : TalkParts) (turned : Turned) (desk : Timed) (held : Option (List ℕ)) → Gives talk.standing (Ok BodyEnd) s' → ReadsOn (given_by so_far.turns) so_far.given so_far.gone talk.standing (Ok BodyEnd) s' → new ≡ record { standing = s'; coming = None; taken = talk.taken } → ((g : Given) → Comes talk.coming (Some g) → Answered Streams now.desk desk now.held held g turned) → GoesOn Streams start (record { desk = desk; left = now.left; ended = now.ended; held = held }) new turned
+  end-turn s' new turned desk held gives reads is answers = go turned (answers g comes)
     where
       g : Given
       g = reads.follows.0
@@ -160,18 +160,18 @@ module _ (Streams : Option Refusal → Type 0) (start now : Moment) (talk : Talk
       one : OneMore (given_by so_far.turns) g (bytes Streams start now talk so_far)
       one = subst (OneMore (given_by so_far.turns) g) (came Streams start now talk so_far reads.gone s' reads.text) (ended-more (given_by so_far.turns) g (so_far.gone ++ reads.gone) s'.waiting s'.place read' (short-so-far talk.coming (Some g) comes))
 
-      go : (turned : Turned) → Answered Streams now.view view now.held held g turned → GoesOn Streams start (record { view = view; left = now.left; ended = now.ended; held = held }) new turned
-      go More a = subst (Progress Streams start (record { view = view; left = now.left; ended = now.ended; held = held })) (sym is) (answered-on Streams start now talk so_far g a.0 view held a.1 reads.gone s' reads.text read' a.2 a.3 (gives-closed (Ok BodyEnd) talk.standing s' gives))
-      go (Ended end.Closed) a = answered-last Streams start now talk so_far g a.0 view held a.1 one most a.2 a.3
-      go (Ended end.WriteFault) a = answered-part Streams start now talk so_far g a.0 view held a.1 one most a.2
-      go (Ended end.Memory) a = memory-ends Streams start now talk so_far g view held one most a.0 a.1
+      go : (turned : Turned) → Answered Streams now.desk desk now.held held g turned → GoesOn Streams start (record { desk = desk; left = now.left; ended = now.ended; held = held }) new turned
+      go More a = subst (Progress Streams start (record { desk = desk; left = now.left; ended = now.ended; held = held })) (sym is) (answered-on Streams start now talk so_far g a.0 desk held a.1 reads.gone s' reads.text read' a.2 a.3 (gives-closed (Ok BodyEnd) talk.standing s' gives))
+      go (Ended end.Closed) a = answered-last Streams start now talk so_far g a.0 desk held a.1 one most a.2 a.3
+      go (Ended end.WriteFault) a = answered-part Streams start now talk so_far g a.0 desk held a.1 one most a.2
+      go (Ended end.Memory) a = memory-ends Streams start now talk so_far g desk held one most a.0 a.1
       go (Ended end.Cut) a = absurd a
       go (Ended end.Bad) a = absurd a
       go (Ended end.Long) a = absurd a
       go (Ended end.ReadFault) a = absurd a
 
   -- more bytes are wanted, and read
-  pub input-turn : (s' : Standing) (new : TalkParts) (turned : Turned) (left : Option (List ℕ)) (ended : Bool) → Gives talk.standing (Ok NeedInput) s' → HoldsNoPart s'.place s'.waiting → ReadsOn (given_by so_far.turns) so_far.given so_far.gone talk.standing (Ok NeedInput) s' → Reads (at s') new now.left left now.ended ended turned → GoesOn Streams start (record { view = now.view; left = left; ended = ended; held = now.held }) new turned
+  pub input-turn : (s' : Standing) (new : TalkParts) (turned : Turned) (left : Option (List ℕ)) (ended : Bool) → Gives talk.standing (Ok NeedInput) s' → HoldsNoPart s'.place s'.waiting → ReadsOn (given_by so_far.turns) so_far.given so_far.gone talk.standing (Ok NeedInput) s' → Reads (at s') new now.left left now.ended ended turned → GoesOn Streams start (record { desk = now.desk; left = left; ended = ended; held = now.held }) new turned
   input-turn s' new turned left ended gives none reads read = go turned read
     where
       parted' : Progress Streams start now (record { standing = s'; coming = talk.coming; taken = talk.taken })
@@ -179,8 +179,8 @@ module _ (Streams : Option Refusal → Type 0) (start now : Moment) (talk : Talk
           (subst (λ done. HasRead done so_far.given (so_far.gone ++ reads.gone) s'.place) reads.follows.0 (subst (λ given. HasRead reads.done' given (so_far.gone ++ reads.gone) s'.place) reads.follows.1 reads.reads))
           so_far.comes (gives-closed (Ok NeedInput) talk.standing s' gives)
 
-      go : (turned : Turned) → Reads (record { standing = s'; coming = talk.coming; taken = talk.taken }) new now.left left now.ended ended turned → GoesOn Streams start (record { view = now.view; left = left; ended = ended; held = now.held }) new turned
-      go More read = read-on Streams start now (record { standing = s'; coming = talk.coming; taken = talk.taken }) parted' new left ended read
+      go : (turned : Turned) → Reads (record { standing = s'; coming = talk.coming; taken = talk.taken }) new now.left left now.ended ended turned → GoesOn Streams start (record { desk = now.desk; left = left; ended = ended; held = now.held }) new turned
+      go More read = read-on Streams start now (record { standing = s'; coming = talk.coming; taken = talk.taken }) parted' new left ended none read
       go (Ended e) read = read-ends Streams start now (record { standing = s'; coming = talk.coming; taken = talk.taken }) parted' new left ended e most none read
 
   -- the input ended between two requests

@@ -1,5 +1,5 @@
 -- A talk under way: what it has done so far, and what each of its steps makes of that.
-use Rattle.std.specs.Prelude.{◌≡◌, ◌<◌, ◌+◌, ◌-◌, ◌*◌, ◌^◌, ◌⊎◌, ◌↔◌, ℕ, Bool, true, false, List, [], ◌++◌, length, Option, Some, None, Result, IfErr, IfOk, IsTrue, codes, nat_le}
+use Rattle.std.specs.Prelude.{◌≡◌, ◌<◌, ◌≤◌, ◌+◌, ◌-◌, ◌*◌, ◌^◌, ◌⊎◌, ◌↔◌, ℕ, Bool, true, false, List, [], ◌++◌, length, Option, Some, None, Result, IfErr, IfOk, IsTrue, codes, nat_le}
 use Rattle.std.specs.List.{AllByRecursion}
 use Rattle.hb_outside.specs.Streams.{Gives, Writes, WritesPart}
 use Rattle.httparse.specs.Grammar.{RequestHead}
@@ -12,14 +12,14 @@ use Rattle.hb_http.specs.declared.parts.HttpFault.TheVariants as fault
 use Rattle.hb_http.specs.declared.places.Place.{Place}
 use Rattle.hb_http.specs.declared.places.Place.TheVariants.{Between}
 use Rattle.hb_desk.specs.Chains.{Chain}
-use Rattle.hb_desk.specs.Clause.{View}
 use Rattle.hb_desk.specs.Points.{Point}
+use Rattle.hb_desk.specs.Timed.{Timed}
 use Rattle.hb_desk.specs.declared.answers.Answer.{Answer}
 use Rattle.hb_desk.specs.declared.refusals.Refusal.{Refusal}
 use Rattle.hb_ops.specs.Errors.{error_answer}
 use Rattle.hb_talk.specs.Bodies.{IsTooLong}
 use Rattle.hb_talk.specs.Comings.{ComesOf, tells_too_long}
-use Rattle.hb_talk.specs.Talks.{AtDesk, Moment, Talked, bad_head, long_head}
+use Rattle.hb_talk.specs.Talks.{AreOpen, AtDesk, Moment, ReadNoFurther, Talked, bad_head, long_head}
 use Rattle.hb_talk.specs.Tasks.{too_long}
 use Rattle.hb_talk.specs.Texts.{answer_text, as_asked}
 use Rattle.hb_talk.specs.Turns.{Answers, AnswersTo, ClosesBy, LeavesUnanswered, Turn, given_by, turns_text}
@@ -51,13 +51,14 @@ pub record Progress (Streams : Option Refusal → Type 0) (start now : Moment) (
   pub gone : List ℕ
   pub gives : Gives start.left now.left (gone ++ talk.standing.waiting)
   pub count : talk.taken ≡ length (gone ++ talk.standing.waiting)
+  pub no_further : ReadNoFurther (gone ++ talk.standing.waiting)
   pub reads : HasRead (given_by turns) given gone talk.standing.place
   pub comes : Comes talk.coming given
-  pub open_ : AllByRecursion (λ t. t.closes ≡ false) turns
+  pub open_ : AreOpen turns
   pub each : AllByRecursion ClosesBy turns
   pub written : Writes start.held now.held (turns_text turns)
   pub ended : talk.standing.closed ≡ true → now.ended ≡ true
-  pub desk : AtDesk Streams start.view now.view turns []
+  pub desk : AtDesk Streams start.desk now.desk turns []
 
 -- what a turn makes of a talk
 abbrev pub GoesOn : (Option Refusal → Type 0) → Moment → Moment → TalkParts → Turned → Type 0
@@ -131,7 +132,7 @@ Came s s' left rest ended ended' n =
 abbrev pub Reads : TalkParts → TalkParts → Option (List ℕ) → Option (List ℕ) → Bool → Bool → Turned → Type 0
 Reads old new left rest ended ended' More =
     (Gives left rest [] × (ended' ≡ true) × (new ≡ record { standing = record { place = old.standing.place; body = old.standing.body; waiting = old.standing.waiting; closed = true }; coming = old.coming; taken = old.taken }))
-    ⊎ ((piece : List ℕ) × (0 < length piece) × Gives left rest piece × (ended' ≡ ended)
+    ⊎ ((piece : List ℕ) × (0 < length piece) × (length piece ≤ 65536) × Gives left rest piece × (ended' ≡ ended)
     × (new ≡ record { standing = record { place = old.standing.place; body = old.standing.body; waiting = old.standing.waiting ++ piece; closed = old.standing.closed }; coming = old.coming; taken = old.taken + length piece }))
 Reads old new left rest ended ended' (Ended Long) = (rest ≡ left) × (ended' ≡ ended) × (old.taken ≡ 2 ^ 62)
 Reads old new left rest ended ended' (Ended ReadFault) = (rest ≡ left) × (ended' ≡ ended)
@@ -139,21 +140,21 @@ Reads old new left rest ended ended' (Ended end) = ⊥
 
 -- ---- an answer
 -- what was answered to a request, by the points of its events
-pub record Served {E : Type 0} (Streams : Option Refusal → Type 0) (start now : View) (g : Given) (result : Result Answer E) : Type 0 where
+pub record Served {E : Type 0} (Streams : Option Refusal → Type 0) (start now : Timed) (g : Given) (result : Result Answer E) : Type 0 where
   pub points : List Point
   pub chain : Chain start points now
-  pub answers : IfOk result (λ a. (read : List ℕ) × AnswersTo Streams start.told_bytes g points read a)
+  pub answers : IfOk result (λ a. (read : List ℕ) × AnswersTo Streams start.view.told_bytes g points read a)
   pub left : IfErr result (λ e. LeavesUnanswered Streams g points)
 
 -- one turn more
-pub record NextTurn (Streams : Option Refusal → Type 0) (start now : View) (g : Given) (t : Turn) : Type 0 where
+pub record NextTurn (Streams : Option Refusal → Type 0) (start now : Timed) (g : Given) (t : Turn) : Type 0 where
   pub given : t.given ≡ g
   pub closes : ClosesBy t
   pub chain : Chain start t.points now
-  pub answers : Answers Streams start.told_bytes t
+  pub answers : Answers Streams start.view.told_bytes t
 
 -- what answering a request makes of desk and sink
-abbrev pub Answered : (Option Refusal → Type 0) → View → View → Option (List ℕ) → Option (List ℕ) → Given → Turned → Type 0
+abbrev pub Answered : (Option Refusal → Type 0) → Timed → Timed → Option (List ℕ) → Option (List ℕ) → Given → Turned → Type 0
 Answered Streams start now held held' g More = (t : Turn) × NextTurn Streams start now g t × (t.closes ≡ false) × Writes held held' (answer_text t.closes t.answer)
 Answered Streams start now held held' g (Ended Closed) = (t : Turn) × NextTurn Streams start now g t × (t.closes ≡ true) × Writes held held' (answer_text t.closes t.answer)
 Answered Streams start now held held' g (Ended WriteFault) = (t : Turn) × NextTurn Streams start now g t × WritesPart held held' (answer_text t.closes t.answer)

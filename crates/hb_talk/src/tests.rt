@@ -1,5 +1,5 @@
 //! Connections over a world in memory, with ample memory.
-use crate::{TalkEnd, talk};
+use crate::{TalkEnd, longest_body, talk};
 use hb_desk::Desk;
 use hb_keeper::MemKeeper;
 use hb_outside::{MemSink, MemSource, StepClock};
@@ -331,6 +331,7 @@ fn an_image_is_pushed_in_chunks(rt: HostRuntime) -> Result<(), Fail> {
 // A head that tells too long a body is answered at once, whatever its route, and nothing behind it is read.
 #[test]
 fn a_body_above_the_limit_is_refused(rt: HostRuntime) -> Result<(), Fail> {
+    longest_body();
     let alloc = rt.alloc();
     let cases: [(&[u8], &[u8]); 3] = [
         (
