@@ -11,7 +11,7 @@ use Rattle.hb_model.specs.Whole.{no_notes}
 use Rattle.hb_desk.specs.Clause.{View}
 use Rattle.hb_desk.specs.Keeping.{state_of}
 use Rattle.hb_desk.specs.declared.refusals.Refusal.{Refusal}
-use Rattle.hb_world.specs.Starting.{opened_by}
+use Rattle.hb_world.specs.Starting.{opened_by, start_moment}
 use Rattle.hb_world.specs.declared.world.StartFault.{StartFault}
 use Rattle.hb_world.specs.declared.world.StartFault.TheVariants as start
 use Rattle.hb_talk.specs.Talks.{Moment, Talked}
@@ -60,17 +60,18 @@ pub record Devices : Type 0 where
 abbrev pub devices : Option Tables → Option Contents → ℕ → ℕ → Devices
 devices rows contents keeper_faults store_faults = record { rows = rows; contents = contents; keeper_faults = keeper_faults; store_faults = store_faults }
 
--- The rows fit, and got a first entry where they had none, at a moment that isn't before their latest. Nothing is
--- remembered of uploads.
-pub record OpenedOn (t : Tables) (v : View) : Type 0 where
+-- The rows fit, and got a first entry where they had none, at the clock's first reading, or at their latest moment where that
+-- is later. Nothing is remembered of uploads.
+pub record OpenedOn (readings : Option (ℕ → ℕ)) (t : Tables) (v : View) : Type 0 where
   pub fits : Tells t None
   pub moment : ℕ
+  pub at : IfSome readings (λ reading. moment ≡ start_moment t (reading 0))
   pub later : latest t.audit ≤ moment
   pub state : v.state ≡ Some (state_of (opened_by t.audit moment t) no_notes)
 
 -- A desk that opened on these devices: nobody else acts on it, and what was stored is told where the store tells it.
-pub record Opened (before : Devices) (v : View) : Type 0 where
-  pub rows : IfSome before.rows (λ t. OpenedOn t v)
+pub record Opened (readings : Option (ℕ → ℕ)) (before : Devices) (v : View) : Type 0 where
+  pub rows : IfSome before.rows (λ t. OpenedOn readings t v)
   pub keeper : before.keeper_faults ≤ v.keeper_faults
   pub store : v.store_faults ≡ before.store_faults
   pub told_bytes : v.told_bytes ≡ is_some before.contents
@@ -85,13 +86,13 @@ pub record Left (after : Devices) (v : View) : Type 0 where
   pub seat : v.spent ≡ false
 
 -- A talk ran at a desk that opened on the devices and left them, and its end gives the status.
-pub record RanTalk (Streams : Option Refusal → Type 0) (start now : View → Moment) (before after : Devices) (status : ℕ) : Type 0 where
+pub record RanTalk (Streams : Option Refusal → Type 0) (readings : Option (ℕ → ℕ)) (start now : View → Moment) (before after : Devices) (status : ℕ) : Type 0 where
   pub end : TalkEnd
   pub status_is : status ≡ status_of end
   pub opened : View
   pub closed : View
   pub talked : Talked Streams (start opened) (now closed) end
-  pub opens : Opened before opened
+  pub opens : Opened readings before opened
   pub leaves : Left after closed
 
 -- `usage` and a line feed were written, or a part of them where the sink failed

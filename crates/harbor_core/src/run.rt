@@ -1,7 +1,9 @@
 //! The top call.
 ghost use Rattle.std.specs.Prelude.{◌≡◌, ◌↔◌, ◌≤◌, ◌⊎◌, codes, IfSome, IsTrue, Some};
 ghost use Rattle.hb_outside.specs.Causes.{Rose};
+ghost use Rattle.hb_outside.specs.Clocks.{behind};
 ghost use Rattle.hb_desk.specs.Points.{IsStreamFault};
+ghost use Rattle.hb_desk.specs.Timed.{timed};
 ghost use Rattle.hb_world.specs.Starting.{CanStart, IsAtRest, IsMisfit};
 ghost use Rattle.hb_world.specs.Worlds.{WorldParts, shown, view_of};
 ghost use Rattle.hb_talk.specs.Talks.{Talked, now_of};
@@ -73,8 +75,8 @@ fn converse<K: Keeper, S: Store, C: Clock, I: Source, O: Sink>(
 ) -> Ended<K, S>
     ensures talked { (end : End) × (left : WorldParts K S) × (result.status ≡ status_of end) × (result.keeper ≡ left.keeper) × (result.store ≡ left.store)
         × Talked (IsStreamFault S.Stage S.Reader S.Stage.faults S.Reader.faults)
-        (now_of (view_of (shown K.rows K.faults S.contents S.faults world)) (I.left input.old) (I.ended input.old) (O.held out.old))
-        (now_of (view_of (shown K.rows K.faults S.contents S.faults left)) (I.left input.new) (I.ended input.new) (O.held out.new)) end }
+        (now_of (timed (view_of (shown K.rows K.faults S.contents S.faults world)) (C.readings clock.old)) (I.left input.old) (I.ended input.old) (O.held out.old))
+        (now_of (timed (view_of (shown K.rows K.faults S.contents S.faults left)) (C.readings clock.new)) (I.left input.new) (I.ended input.new) (O.held out.new)) end }
     ensures rest { IsAtRest (K.rows result.keeper) (S.contents result.store) }
     ensures later { K.faults world.keeper ≤ K.faults result.keeper }
     ensures read { result.status ≡ 3 → Rose (I.faults input.old) (I.faults input.new) }
@@ -120,9 +122,10 @@ pub fn run<K: Keeper, S: Store, C: Clock, I: Source, O: Sink>(
 ) -> Ended<K, S>
     requires can { CanStart (K.rows keeper) (S.contents store) }
     // A talk ran over a world that opened on the devices: what is written are the answers of the requests that were read,
-    // each by the points of its own events; and the rows that are left are those of the audit after the last.
-    ensures talked { IsTalk words.now → RanTalk (IsStreamFault S.Stage S.Reader S.Stage.faults S.Reader.faults)
-        (λ v. now_of v (I.left input.old) (I.ended input.old) (O.held out.old)) (λ v. now_of v (I.left input.new) (I.ended input.new) (O.held out.new))
+    // each by the points of its own events, which stand at the readings of the clock behind that of the start; and the rows
+    // that are left are those of the audit after the last.
+    ensures talked { IsTalk words.now → RanTalk (IsStreamFault S.Stage S.Reader S.Stage.faults S.Reader.faults) (C.readings clock.old)
+        (λ v. now_of (timed v (behind (C.readings clock.old))) (I.left input.old) (I.ended input.old) (O.held out.old)) (λ v. now_of (timed v (C.readings clock.new)) (I.left input.new) (I.ended input.new) (O.held out.new))
         (devices (K.rows keeper) (S.contents store) (K.faults keeper) (S.faults store)) (devices (K.rows result.keeper) (S.contents result.store) (K.faults result.keeper) (S.faults result.store))
         result.status
         ⊎ NotStarted result.status (input.new ≡ input.old) (out.new ≡ out.old) (result.store ≡ store) (K.rows result.keeper ≡ K.rows keeper) }

@@ -3,7 +3,7 @@ use Rattle.hb_records.specs.declared.notes.Notes.{Notes}
 use Rattle.hb_desk.specs.Clause.{View}
 use Rattle.hb_desk.specs.Keeping.{state_of}
 use Rattle.hb_world.specs.Worlds.{shown, view_of}
-use Rattle.harbor_core.proofs.Running.{left-rows, opened-on, refused-misfit, started-fits, talked-fits}
+use Rattle.harbor_core.proofs.Running.{left-rows, opened-on, refused-misfit, started-fits, talked-fits, talked-from}
 use Rattle.harbor_core.proofs.run.run.Goals as goal
 
 pub returns-in-Ok-clause-talked : goal.returns-in-Ok-clause-talked
@@ -16,9 +16,9 @@ returns-in-Ok-clause-talked g c = λ talk.
       status_is = ran.2;
       opened = opened;
       closed = closed;
-      talked = ran.5;
+      talked = talked-from _ opened _ _ _ _ _ _ ran.0 c.now.ensures.goes_on ran.5;
       opens = record {
-        rows = opened-on (g.K.Keeper.rows c.args.keeper) (g.K.Keeper.rows c.in-Ok.world.keeper) c.now.result c.in-Ok.world.moment c.in-Ok.world.notes opened c.in-Ok.ensures.started c.in-Ok.ensures.fresh.0 refl;
+        rows = opened-on (g.C.Clock.readings c.args.clock.now) (g.K.Keeper.rows c.args.keeper) (g.K.Keeper.rows c.in-Ok.world.keeper) c.now.result c.in-Ok.world.moment c.in-Ok.world.notes opened c.now.ensures.reading c.in-Ok.ensures.started c.in-Ok.ensures.fresh.0 refl;
         keeper = c.in-Ok.ensures.later;
         store = ap (λ s. g.S.Store.faults s) c.in-Ok.ensures.store;
         told_bytes = ap (λ s. is_some (g.S.Store.contents s)) c.in-Ok.ensures.store;
