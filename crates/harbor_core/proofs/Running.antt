@@ -6,7 +6,7 @@ use Rattle.hb_model.specs.Whole.{no_notes}
 use Rattle.hb_desk.specs.Clause.{View}
 use Rattle.hb_desk.specs.Keeping.{state_of}
 use Rattle.hb_desk.specs.State.{State}
-use Rattle.hb_desk.specs.Timed.{timed}
+use Rattle.hb_desk.specs.ClockedDesks.{clocked}
 use Rattle.hb_desk.specs.declared.refusals.Refusal.{Refusal}
 use Rattle.hb_world.specs.Starting.{IsMisfit, Refused, Started, opened_by, start_moment}
 use Rattle.hb_world.specs.declared.world.StartFault.{StartFault}
@@ -43,8 +43,8 @@ opened-on readings (Some t) opened now moment notes v reads started fresh is = r
     at (Some reading) reads = ap (start_moment t) reads
 
 -- a talk begins at the clock that the start left
-pub talked-from : (Streams : Option Refusal → Type 0) (opened : View) (left_by from : Option (ℕ → ℕ)) (left : Option (List ℕ)) (ended : Bool) (held : Option (List ℕ)) (now : Moment) (end : TalkEnd) → left_by ≡ from → Talked Streams (now_of (timed opened left_by) left ended held) now end → Talked Streams (now_of (timed opened from) left ended held) now end
-talked-from Streams opened left_by from left ended held now end is h = subst (λ readings. Talked Streams (now_of (timed opened readings) left ended held) now end) is h
+pub talked-from : (Streams : Option Refusal → Type 0) (opened : View) (left_by from : Option (ℕ → ℕ)) (left : Option (List ℕ)) (ended : Bool) (held : Option (List ℕ)) (now : Moment) (end : TalkEnd) → left_by ≡ from → Talked Streams (now_of (clocked opened left_by) left ended held) now end → Talked Streams (now_of (clocked opened from) left ended held) now end
+talked-from Streams opened left_by from left ended held now end is h = subst (λ readings. Talked Streams (now_of (clocked opened readings) left ended held) now end) is h
 
 -- the rows that are left are those of the state that was told last
 pub left-rows : (rows : Option Tables) (notes : Notes) (state : Option State) → state ≡ option_map (λ r. state_of r notes) rows → IfSome rows (λ r. (n : Notes) × (state ≡ Some (state_of r n)))

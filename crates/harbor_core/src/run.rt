@@ -3,7 +3,7 @@ ghost use Rattle.std.specs.Prelude.{◌≡◌, ◌↔◌, ◌≤◌, ◌⊎◌, 
 ghost use Rattle.hb_outside.specs.Causes.{Rose};
 ghost use Rattle.hb_outside.specs.Clocks.{behind};
 ghost use Rattle.hb_desk.specs.Points.{IsStreamFault};
-ghost use Rattle.hb_desk.specs.Timed.{timed};
+ghost use Rattle.hb_desk.specs.ClockedDesks.{clocked};
 ghost use Rattle.hb_world.specs.Starting.{CanStart, IsAtRest, IsMisfit};
 ghost use Rattle.hb_world.specs.Worlds.{WorldParts, shown, view_of};
 ghost use Rattle.hb_talk.specs.Talks.{Talked, now_of};
@@ -75,8 +75,8 @@ fn converse<K: Keeper, S: Store, C: Clock, I: Source, O: Sink>(
 ) -> Ended<K, S>
     ensures talked { (end : End) × (left : WorldParts K S) × (result.status ≡ status_of end) × (result.keeper ≡ left.keeper) × (result.store ≡ left.store)
         × Talked (IsStreamFault S.Stage S.Reader S.Stage.faults S.Reader.faults)
-        (now_of (timed (view_of (shown K.rows K.faults S.contents S.faults world)) (C.readings clock.old)) (I.left input.old) (I.ended input.old) (O.held out.old))
-        (now_of (timed (view_of (shown K.rows K.faults S.contents S.faults left)) (C.readings clock.new)) (I.left input.new) (I.ended input.new) (O.held out.new)) end }
+        (now_of (clocked (view_of (shown K.rows K.faults S.contents S.faults world)) (C.readings clock.old)) (I.left input.old) (I.ended input.old) (O.held out.old))
+        (now_of (clocked (view_of (shown K.rows K.faults S.contents S.faults left)) (C.readings clock.new)) (I.left input.new) (I.ended input.new) (O.held out.new)) end }
     ensures rest { IsAtRest (K.rows result.keeper) (S.contents result.store) }
     ensures later { K.faults world.keeper ≤ K.faults result.keeper }
     ensures read { result.status ≡ 3 → Rose (I.faults input.old) (I.faults input.new) }
@@ -125,7 +125,7 @@ pub fn run<K: Keeper, S: Store, C: Clock, I: Source, O: Sink>(
     // each by the points of its own events, which stand at the readings of the clock behind that of the start; and the rows
     // that are left are those of the audit after the last.
     ensures talked { IsTalk words.now → RanTalk (IsStreamFault S.Stage S.Reader S.Stage.faults S.Reader.faults) (C.readings clock.old)
-        (λ v. now_of (timed v (behind (C.readings clock.old))) (I.left input.old) (I.ended input.old) (O.held out.old)) (λ v. now_of (timed v (C.readings clock.new)) (I.left input.new) (I.ended input.new) (O.held out.new))
+        (λ v. now_of (clocked v (behind (C.readings clock.old))) (I.left input.old) (I.ended input.old) (O.held out.old)) (λ v. now_of (clocked v (C.readings clock.new)) (I.left input.new) (I.ended input.new) (O.held out.new))
         (devices (K.rows keeper) (S.contents store) (K.faults keeper) (S.faults store)) (devices (K.rows result.keeper) (S.contents result.store) (K.faults result.keeper) (S.faults result.store))
         result.status
         ⊎ NotStarted result.status (input.new ≡ input.old) (out.new ≡ out.old) (result.store ≡ store) (K.rows result.keeper ≡ K.rows keeper) }

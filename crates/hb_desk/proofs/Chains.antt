@@ -12,7 +12,7 @@ use Rattle.hb_desk.specs.Events.{Event, acknowledged, after, entry_of, happens}
 use Rattle.hb_desk.specs.Points.{IsBetween, IsFrom, IsTimely, Moves, Point, StoodAt}
 use Rattle.hb_desk.specs.Prefix.{GoesOn}
 use Rattle.hb_desk.specs.State.{State}
-use Rattle.hb_desk.specs.Timed.{Timed}
+use Rattle.hb_desk.specs.ClockedDesks.{ClockedDesk}
 use Rattle.hb_desk.specs.declared.refusals.Refusal.TheVariants.{Spent}
 use Rattle.hb_desk.proofs.Histories.{entered-goes, events-go-on, goes-on}
 
@@ -54,8 +54,8 @@ all-stand audit audit' mine mine' (p ∷ points) goes kept h = (go p.state h.0, 
     go (Some at) h = later-stands audit audit' mine mine' p.event at goes kept h
 
 -- a desk that told its state tells it behind its events
-told-behind : (start now : Timed) (points : List Point) (s : State) → start.view.state ≡ Some s → Chain start points now → (t : State) × (now.view.state ≡ Some t)
-told-behind start now [] s told chain = (s, ap (λ (v : Timed). v.view.state) (sym chain) ∙ told)
+told-behind : (start now : ClockedDesk) (points : List Point) (s : State) → start.view.state ≡ Some s → Chain start points now → (t : State) × (now.view.state ≡ Some t)
+told-behind start now [] s told chain = (s, ap (λ (v : ClockedDesk). v.view.state) (sym chain) ∙ told)
 told-behind start now (p ∷ points) s told chain =
     let mid = told-behind start chain.0 points s told chain.1 in
     let stood = subst (λ state. StoodAt state chain.0.view now.view p.event.call p.event.outcome p.state) mid.1 chain.2.between.stood in
@@ -64,8 +64,8 @@ told-behind start now (p ∷ points) s told chain =
       | inr unmade ↦ (_, unmade.1)
     ]
 
-pub chain-stands : (start now : Timed) (points : List Point) (s s' : State) → Chain start points now → start.view.state ≡ Some s → now.view.state ≡ Some s' → GoesOn s.audit s'.audit × AllByRecursion (StandsBehind s'.audit (λ n. now.view.mine n ≡ true)) points
-chain-stands start now [] s s' chain first last = (subst (λ x. GoesOn s.audit x.audit) (same-state s s' (sym first ∙ ap (λ (v : Timed). v.view.state) chain ∙ last)) ([], refl), tt)
+pub chain-stands : (start now : ClockedDesk) (points : List Point) (s s' : State) → Chain start points now → start.view.state ≡ Some s → now.view.state ≡ Some s' → GoesOn s.audit s'.audit × AllByRecursion (StandsBehind s'.audit (λ n. now.view.mine n ≡ true)) points
+chain-stands start now [] s s' chain first last = (subst (λ x. GoesOn s.audit x.audit) (same-state s s' (sym first ∙ ap (λ (v : ClockedDesk). v.view.state) chain ∙ last)) ([], refl), tt)
 chain-stands start now (p ∷ points) s s' chain first last =
     let mid = chain.0 in
     let told = told-behind start mid points s first chain.1 in
@@ -109,7 +109,7 @@ later-spent : (n m : ℕ) (points : List Point) → n ≤ m → AllByRecursion (
 later-spent n m [] more h = tt
 later-spent n m (p ∷ points) more h = (λ spent. (omega (arith, more, (h.0 spent).0), (h.0 spent).1), later-spent n m points more h.1)
 
-pub chain-spent : (start now : Timed) (points : List Point) → Chain start points now → now.view.spent ≡ false → AllByRecursion (IsSpentByReply now.view.entries) points
+pub chain-spent : (start now : ClockedDesk) (points : List Point) → Chain start points now → now.view.spent ≡ false → AllByRecursion (IsSpentByReply now.view.entries) points
 chain-spent start now [] chain left = tt
 chain-spent start now (p ∷ points) chain left =
     let mid = chain.0 in
@@ -120,8 +120,8 @@ chain-spent start now (p ∷ points) chain left =
 
 -- ---- readings of the clock
 -- behind the events as many readings are taken
-chain-readings : (start now : Timed) (points : List Point) (reading : ℕ → ℕ) → Chain start points now → start.readings ≡ Some reading → now.readings ≡ Some (λ k. reading (length points + k))
-chain-readings start now [] reading chain told = ap (λ (t : Timed). t.readings) (sym chain) ∙ told ∙ ap (λ r. Some r) (λ i k. reading (zero-on k i))
+chain-readings : (start now : ClockedDesk) (points : List Point) (reading : ℕ → ℕ) → Chain start points now → start.readings ≡ Some reading → now.readings ≡ Some (λ k. reading (length points + k))
+chain-readings start now [] reading chain told = ap (λ (t : ClockedDesk). t.readings) (sym chain) ∙ told ∙ ap (λ r. Some r) (λ i k. reading (zero-on k i))
   where
     zero-on : (k : ℕ) → k ≡ 0 + k
     zero-on k = omega arith
@@ -131,7 +131,7 @@ chain-readings start now (p ∷ points) reading chain told =
     one-on : (n k : ℕ) → n + suc k ≡ suc n + k
     one-on n k = omega arith
 
-chain-timely : (start now : Timed) (points : List Point) (reading : ℕ → ℕ) → Chain start points now → start.readings ≡ Some reading → AreTimely reading points
+chain-timely : (start now : ClockedDesk) (points : List Point) (reading : ℕ → ℕ) → Chain start points now → start.readings ≡ Some reading → AreTimely reading points
 chain-timely start now [] reading chain told = tt
 chain-timely start now (p ∷ points) reading chain told = (newest, chain-timely start chain.0 points reading chain.1 told)
   where
@@ -141,7 +141,7 @@ chain-timely start now (p ∷ points) reading chain told = (newest, chain-timely
     newest : IsFrom (reading (length points)) p
     newest = subst (λ n. IsFrom (reading n) p) (none-on (length points)) (subst (λ readings. IfSome readings (λ reading. IsTimely (reading 0) chain.0.view p)) (chain-readings start chain.0 points reading chain.1 told) chain.2.timely).from
 
-pub readings-timely : (start now : Timed) (points : List Point) → Chain start points now → IfSome start.readings (λ reading. AreTimely reading points)
+pub readings-timely : (start now : ClockedDesk) (points : List Point) → Chain start points now → IfSome start.readings (λ reading. AreTimely reading points)
 readings-timely start now points chain = go start.readings refl
   where
     go : (readings : Option (ℕ → ℕ)) → start.readings ≡ readings → IfSome readings (λ reading. AreTimely reading points)
@@ -149,13 +149,13 @@ readings-timely start now points chain = go start.readings refl
     go (Some reading) told = chain-timely start now points reading chain told
 
 -- ---- joined
-pub chain-append : (a b c : Timed) (points more : List Point) → Chain a points b → Chain b more c → Chain a (more ++ points) c
+pub chain-append : (a b c : ClockedDesk) (points more : List Point) → Chain a points b → Chain b more c → Chain a (more ++ points) c
 chain-append a b c points [] one two = subst (λ v. Chain a points v) two one
 chain-append a b c points (p ∷ more) one two = (two.0, chain-append a b two.0 points more one two.1, two.2)
 
 -- no event changes whether bytes are told
-pub chain-bytes : (start now : Timed) (points : List Point) → Chain start points now → now.view.told_bytes ≡ start.view.told_bytes
-chain-bytes start now [] chain = ap (λ (t : Timed). t.view.told_bytes) (sym chain)
+pub chain-bytes : (start now : ClockedDesk) (points : List Point) → Chain start points now → now.view.told_bytes ≡ start.view.told_bytes
+chain-bytes start now [] chain = ap (λ (t : ClockedDesk). t.view.told_bytes) (sym chain)
 chain-bytes start now (p ∷ points) chain = chain.2.between.moves.told_bytes ∙ chain-bytes start chain.0 points chain.1
 
 -- ---- the numbers of a desk

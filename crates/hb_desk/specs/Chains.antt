@@ -8,17 +8,17 @@ use Rattle.hb_desk.specs.Points.{IsFrom, Point}
 use Rattle.hb_desk.specs.Prefix.{GoesOn}
 use Rattle.hb_desk.specs.Reply.{reply}
 use Rattle.hb_desk.specs.State.{State}
-use Rattle.hb_desk.specs.Timed.{HappensBetween, Timed}
+use Rattle.hb_desk.specs.ClockedDesks.{HappensBetween, ClockedDesk}
 use Rattle.hb_desk.specs.declared.refusals.Refusal.{Refusal}
 use Rattle.hb_desk.specs.declared.refusals.Refusal.TheVariants.{Spent}
 
 -- the points, the newest first, lead from one to the other
-abbrev pub Chain : Timed → List Point → Timed → Type 0
+abbrev pub Chain : ClockedDesk → List Point → ClockedDesk → Type 0
 Chain start [] now = start ≡ now
-Chain start (p ∷ points) now = (mid : Timed) × Chain start points mid × HappensBetween p mid now
+Chain start (p ∷ points) now = (mid : ClockedDesk) × Chain start points mid × HappensBetween p mid now
 
 -- the events of an operation, and what it became by them
-pub record Driven (Streams : Option Refusal → Type 0) (start now : Timed) (Went : List Point → Type 0) : Type 0 where
+pub record Driven (Streams : Option Refusal → Type 0) (start now : ClockedDesk) (Went : List Point → Type 0) : Type 0 where
   pub points : List Point
   pub chain : Chain start points now
   pub streams : AllByRecursion (λ p. Streams p.fault) points

@@ -2,6 +2,7 @@ pub mod Alone
 pub mod Calls
 pub mod Chains
 pub mod Clause
+pub mod ClockedDesks
 pub mod Events
 pub mod Keeping
 pub mod Notes
@@ -13,5 +14,4 @@ pub mod Refusing
 pub mod Reply
 pub mod State
 pub mod StoreCalls
-pub mod Timed
 pub mod AskedPoints

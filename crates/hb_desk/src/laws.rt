@@ -14,7 +14,7 @@ ghost use Rattle.hb_desk.specs.Points.{Point};
 ghost use Rattle.hb_desk.specs.Prefix.{GoesOn};
 ghost use Rattle.hb_desk.specs.Reply.{reply};
 ghost use Rattle.hb_desk.specs.State.{State};
-ghost use Rattle.hb_desk.specs.Timed.{Timed};
+ghost use Rattle.hb_desk.specs.ClockedDesks.{ClockedDesk};
 
 /// The entry that a reply makes is legal as the next one, at a moment that doesn't fall.
 pub fn what_is_replied_is_legal()
@@ -61,7 +61,7 @@ pub fn what_others_do_adds_up()
 /// What a caller had seen stays. So does what its events made: behind each point stands what happened there, and an
 /// entry of it is among the caller's own.
 pub fn points_stand_in_what_was_seen()
-    ensures { (start now : Timed) (points : List Point) (s t : State) → Chain start points now
+    ensures { (start now : ClockedDesk) (points : List Point) (s t : State) → Chain start points now
         → start.view.state ≡ Some s → now.view.state ≡ Some t
         → GoesOn s.audit t.audit × AllByRecursion (StandsBehind t.audit (λ n. now.view.mine n ≡ true)) points }
 {}
@@ -69,12 +69,12 @@ pub fn points_stand_in_what_was_seen()
 /// A caller whose seat isn't spent at the end was refused as spent only where the audit was full; by the reply, where what
 /// was seen is told.
 pub fn only_a_full_audit_is_spent()
-    ensures { (start now : Timed) (points : List Point) → Chain start points now → now.view.spent ≡ false
+    ensures { (start now : ClockedDesk) (points : List Point) → Chain start points now → now.view.spent ≡ false
         → AllByRecursion (IsSpentByReply now.view.entries) points }
 {}
 
 /// Each event of a caller stood at the reading of its clock that was its turn, or later; unless it wasn't made.
 pub fn events_stand_at_readings_of_the_clock()
-    ensures { (start now : Timed) (points : List Point) → Chain start points now
+    ensures { (start now : ClockedDesk) (points : List Point) → Chain start points now
         → IfSome start.readings (λ reading. AreTimely reading points) }
 {}

@@ -2,7 +2,7 @@ ghost use Rattle.std.specs.Prelude.{◌≡◌, ◌<◌, ◌↔◌, ℕ, Bool, Li
 ghost use Rattle.hb_desk.specs.Chains.{Driven};
 ghost use Rattle.hb_desk.specs.Clause.{View};
 ghost use Rattle.hb_desk.specs.Points.{IsStreamFault, Point, Steps, Moves};
-ghost use Rattle.hb_desk.specs.Timed.{timed};
+ghost use Rattle.hb_desk.specs.ClockedDesks.{clocked};
 
 use crate::desk::Desk;
 use hb_outside::Clock;
@@ -56,7 +56,7 @@ pub fn drive<D: Desk, C: Clock, O: Op<D>>(desk: &mut D, clock: &mut C, op: &mut 
     ensures done { O.done op.new ≡ true }
     ensures fits { O.fits op.new (D.view desk.new) }
     ensures moves { Moves (D.view desk.old) (D.view desk.new) }
-    ensures driven { (begun : O) → O.since begun op.old [] → Driven (IsStreamFault D.Stage D.Reader D.Stage.faults D.Reader.faults) (timed (D.view desk.old) (C.readings clock.old)) (timed (D.view desk.new) (C.readings clock.new)) (O.since begun op.new) }
+    ensures driven { (begun : O) → O.since begun op.old [] → Driven (IsStreamFault D.Stage D.Reader D.Stage.faults D.Reader.faults) (clocked (D.view desk.old) (C.readings clock.old)) (clocked (D.view desk.new) (C.readings clock.new)) (O.since begun op.new) }
 {
     loop {
         match op.step(desk, clock.now()) {

@@ -6,7 +6,7 @@ use Rattle.hb_text.specs.declared.references.Reference.{Reference}
 use Rattle.hb_http.specs.AnswerHeads.{HasPhrase}
 use Rattle.hb_desk.specs.Chains.{Driven}
 use Rattle.hb_desk.specs.Points.{Point}
-use Rattle.hb_desk.specs.Timed.{Timed}
+use Rattle.hb_desk.specs.ClockedDesks.{ClockedDesk}
 use Rattle.hb_desk.specs.declared.answers.Answer.{Answer}
 use Rattle.hb_desk.specs.declared.refusals.Refusal.{Refusal}
 use Rattle.hb_upload.specs.Deciding.{decided}
@@ -49,14 +49,14 @@ manifest-phrase manifest.NoSchema = refl
 manifest-phrase manifest.TooMany = refl
 
 -- ---- a task without an event
-pub not-begun : {E : Type 0} (Streams : Option Refusal → Type 0) (task : Task) (v : Timed) (e : E) → Worked Streams task v v (Err e)
+pub not-begun : {E : Type 0} (Streams : Option Refusal → Type 0) (task : Task) (v : ClockedDesk) (e : E) → Worked Streams task v v (Err e)
 not-begun Streams task v e = record { points = []; chain = refl; done = tt; left = inl refl }
 
-pub refused-worked : {E : Type 0} (Streams : Option Refusal → Type 0) (error : ErrorForm) (v : Timed) (result : Result Answer E) → IfOk result (λ a. a ≡ error_answer error) → Worked Streams (Refuses error) v v result
+pub refused-worked : {E : Type 0} (Streams : Option Refusal → Type 0) (error : ErrorForm) (v : ClockedDesk) (result : Result Answer E) → IfOk result (λ a. a ≡ error_answer error) → Worked Streams (Refuses error) v v result
 refused-worked Streams error v (Err e) is = not-begun Streams (Refuses error) v e
 refused-worked Streams error v (Ok a) is = record { points = []; chain = refl; done = ([], record { makes = refl; answers = is; reads = tt; streams = tt }); left = tt }
 
-pub told-worked : {E : Type 0} (Streams : Option Refusal → Type 0) (answer : Answer) (v : Timed) (result : Result Answer E) → IfOk result (λ a. a ≡ answer) → Worked Streams (Tells answer) v v result
+pub told-worked : {E : Type 0} (Streams : Option Refusal → Type 0) (answer : Answer) (v : ClockedDesk) (result : Result Answer E) → IfOk result (λ a. a ≡ answer) → Worked Streams (Tells answer) v v result
 told-worked Streams answer v (Err e) is = not-begun Streams (Tells answer) v e
 told-worked Streams answer v (Ok a) is = record { points = []; chain = refl; done = ([], record { makes = refl; answers = is; reads = tt; streams = tt }); left = tt }
 
@@ -71,14 +71,14 @@ refused-form name r media body found a fault found_is same form is = record {
 }
 
 -- the task that is pushed is the manifest's
-pub as-task : {E : Type 0} (Streams : Option Refusal → Type 0) (task task' : Task) (old new : Timed) (result : Result Answer E) → task ≡ task' → Worked Streams task' old new result → Worked Streams task old new result
+pub as-task : {E : Type 0} (Streams : Option Refusal → Type 0) (task task' : Task) (old new : ClockedDesk) (result : Result Answer E) → task ≡ task' → Worked Streams task' old new result → Worked Streams task old new result
 as-task Streams task task' old new result same worked = subst (λ task. Worked Streams task old new result) (sym same) worked
 
-pub refused-task : (E : Type 0) (Streams : Option Refusal → Type 0) (task : Task) (a : Answer) (v : Timed) → IsRefused task a → Worked {E = E} Streams task v v (Ok a)
+pub refused-task : (E : Type 0) (Streams : Option Refusal → Type 0) (task : Task) (a : Answer) (v : ClockedDesk) → IsRefused task a → Worked {E = E} Streams task v v (Ok a)
 refused-task E Streams task a v is = as-task Streams task (Refuses is.error) v v (Ok a) is.task_is (refused-worked Streams is.error v (Ok a) is.answer_is)
 
 -- a task that was driven to its end, by points that decide its answer
-driven-worked : {E : Type 0} (Streams : Option Refusal → Type 0) (task : Task) (old new : Timed) (Went : List Point → Type 0) (read : List ℕ) (told : Answer) (result : Result Answer E) → (driven : Driven Streams old new Went) → Makes task driven.points → told ≡ answer_of task driven.points read → ReadsTrue old.view.told_bytes task driven.points read → IfOk result (λ a. a ≡ told) → Worked Streams task old new result
+driven-worked : {E : Type 0} (Streams : Option Refusal → Type 0) (task : Task) (old new : ClockedDesk) (Went : List Point → Type 0) (read : List ℕ) (told : Answer) (result : Result Answer E) → (driven : Driven Streams old new Went) → Makes task driven.points → told ≡ answer_of task driven.points read → ReadsTrue old.view.told_bytes task driven.points read → IfOk result (λ a. a ≡ told) → Worked Streams task old new result
 driven-worked Streams task old new Went read told (Err e) driven makes decides reads answer = record { points = driven.points; chain = driven.chain; done = tt; left = inr (makes, driven.streams) }
 driven-worked Streams task old new Went read told (Ok a) driven makes decides reads answer = record {
   points = driven.points;
@@ -98,7 +98,7 @@ stopped-at (phase.Settle u) is = cc is
 stopped-at (phase.End u s stop) is = cc is
 stopped-at (phase.Drop u s stop) is = cc is
 
-pub push-worked : {T E : Type 0} (Streams : Option Refusal → Type 0) (begun push : PushParts T) (old new : Timed) (stop : Stop) (result : Result Answer E) → Driven Streams old new (Went begun push) → is_ended push.phase ≡ true → ((points : List Point) → Went begun push points → stop ≡ decided push.parcel points) → IfOk result (λ a. a ≡ push_answer begun.parcel stop) → Worked Streams (Pushes begun.parcel) old new result
+pub push-worked : {T E : Type 0} (Streams : Option Refusal → Type 0) (begun push : PushParts T) (old new : ClockedDesk) (stop : Stop) (result : Result Answer E) → Driven Streams old new (Went begun push) → is_ended push.phase ≡ true → ((points : List Point) → Went begun push points → stop ≡ decided push.parcel points) → IfOk result (λ a. a ≡ push_answer begun.parcel stop) → Worked Streams (Pushes begun.parcel) old new result
 push-worked Streams begun push old new stop result driven ended is answer =
     driven-worked Streams (Pushes begun.parcel) old new (Went begun push) [] (push_answer begun.parcel stop) result driven makes
     (ap (λ stop. push_answer begun.parcel stop) (is driven.points driven.went ∙ ap (λ b. decided b driven.points) driven.went.same)) tt answer
@@ -120,7 +120,7 @@ ok-both Q (Ok x) p q = (p, q)
 ok-both Q (Err e) p q = tt
 
 -- ---- a get
-pub get-worked : {E : Type 0} (Streams : Option Refusal → Type 0) (begun end : GetParts) (old new : Timed) (x : Got) (result : Result Answer E) → Driven Streams old new (GetWent begun end) → end.phase ≡ get.Ended x → ((points : List Point) → GetWent begun end points → x ≡ got_by (read_of x) points) → GetFits end.phase new.view → new.view.told_bytes ≡ old.view.told_bytes → IfOk result (λ a. a ≡ got_answer x) → Worked Streams (Gets begun.sought) old new result
+pub get-worked : {E : Type 0} (Streams : Option Refusal → Type 0) (begun end : GetParts) (old new : ClockedDesk) (x : Got) (result : Result Answer E) → Driven Streams old new (GetWent begun end) → end.phase ≡ get.Ended x → ((points : List Point) → GetWent begun end points → x ≡ got_by (read_of x) points) → GetFits end.phase new.view → new.view.told_bytes ≡ old.view.told_bytes → IfOk result (λ a. a ≡ got_answer x) → Worked Streams (Gets begun.sought) old new result
 get-worked Streams begun end old new x result driven ended is fits told answer =
     driven-worked Streams (Gets begun.sought) old new (GetWent begun end) (read_of x) (got_answer x) result driven makes (ap (λ x. got_answer x) same)
     (subst (λ x. HasDigest old.view.told_bytes x) same (subst (λ told. HasDigest told x) told (subst (λ p. GetFits p new.view) ended fits))) answer
@@ -132,7 +132,7 @@ get-worked Streams begun end old new x result driven ended is fits told answer =
     makes = (x, subst (λ sought. LeadTo sought (get.Ended x) driven.points) driven.went.same (subst (λ p. LeadTo end.sought p driven.points) ended driven.went.lead))
 
 -- ---- a check
-pub check-worked : {E : Type 0} (Streams : Option Refusal → Type 0) (begun end : CheckParts) (old new : Timed) (x : Checked) (result : Result Answer E) → Driven Streams old new (CheckWent begun end) → end.ended ≡ Some x → ((points : List Point) → CheckWent begun end points → x ≡ checked_by begun.ask points) → IfOk result (λ a. a ≡ checked_answer x) → Worked Streams (Checks begun.ask) old new result
+pub check-worked : {E : Type 0} (Streams : Option Refusal → Type 0) (begun end : CheckParts) (old new : ClockedDesk) (x : Checked) (result : Result Answer E) → Driven Streams old new (CheckWent begun end) → end.ended ≡ Some x → ((points : List Point) → CheckWent begun end points → x ≡ checked_by begun.ask points) → IfOk result (λ a. a ≡ checked_answer x) → Worked Streams (Checks begun.ask) old new result
 check-worked Streams begun end old new x result driven ended is answer =
     driven-worked Streams (Checks begun.ask) old new (CheckWent begun end) [] (checked_answer x) result driven makes (ap (λ x. checked_answer x) (is driven.points driven.went)) tt answer
   where

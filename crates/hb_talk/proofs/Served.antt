@@ -4,7 +4,7 @@ use Rattle.hb_outside.specs.Streams.{WritesPart}
 use Rattle.hb_http.specs.Readings.{Given}
 use Rattle.hb_desk.specs.Chains.{Chain}
 use Rattle.hb_desk.specs.Points.{Point}
-use Rattle.hb_desk.specs.Timed.{Timed}
+use Rattle.hb_desk.specs.ClockedDesks.{ClockedDesk}
 use Rattle.hb_desk.specs.declared.answers.Answer.{Answer}
 use Rattle.hb_desk.specs.declared.refusals.Refusal.{Refusal}
 use Rattle.hb_ops.specs.Errors.{error_answer}
@@ -27,7 +27,7 @@ task-is : (g : Given) (c : Coming) (body : List ℕ) → Comes (Some c) (Some g)
 task-is g c body comes body_is = inr (comes.2, c.wanted, comes.0.asks, ap (task_of c.wanted c.media) (body_is ∙ comes.1) ∙ ap (λ media. task_of c.wanted media g.content) comes.0.media)
 
 -- was done, and its answer told as the request asks
-pub served-task : (E : Type 0) (Streams : Option Refusal → Type 0) (g : Given) (c : Coming) (body : List ℕ) (full : Answer) (old new : Timed) → Comes (Some c) (Some g) → body ≡ c.body.items → Worked {E = E} Streams (task_of c.wanted c.media body) old new (Ok full) → Served {E = E} Streams old new g (Ok (as_asked c.bare full))
+pub served-task : (E : Type 0) (Streams : Option Refusal → Type 0) (g : Given) (c : Coming) (body : List ℕ) (full : Answer) (old new : ClockedDesk) → Comes (Some c) (Some g) → body ≡ c.body.items → Worked {E = E} Streams (task_of c.wanted c.media body) old new (Ok full) → Served {E = E} Streams old new g (Ok (as_asked c.bare full))
 served-task E Streams g c body full old new comes body_is worked = record {
   points = worked.points;
   chain = worked.chain;
@@ -36,24 +36,24 @@ served-task E Streams g c body full old new comes body_is worked = record {
 }
 
 -- or has no answer
-pub unserved-task : {E : Type 0} (Streams : Option Refusal → Type 0) (g : Given) (c : Coming) (body : List ℕ) (old new : Timed) (e : E) → Comes (Some c) (Some g) → body ≡ c.body.items → Worked Streams (task_of c.wanted c.media body) old new (Err e) → Served Streams old new g (Err e)
+pub unserved-task : {E : Type 0} (Streams : Option Refusal → Type 0) (g : Given) (c : Coming) (body : List ℕ) (old new : ClockedDesk) (e : E) → Comes (Some c) (Some g) → body ≡ c.body.items → Worked Streams (task_of c.wanted c.media body) old new (Err e) → Served Streams old new g (Err e)
 unserved-task Streams g c body old new e comes body_is worked = record { points = worked.points; chain = worked.chain; answers = tt; left = (task_of c.wanted c.media body, task-is g c body comes body_is, worked.left) }
 
 -- the events of a request that is left without its answer, even where there was one to be written
-pub left-unanswered : {E : Type 0} (Streams : Option Refusal → Type 0) (old new : Timed) (g : Given) (result : Result Answer E) → Served Streams old new g result → (points : List Point) × Chain old points new × LeavesUnanswered Streams g points
+pub left-unanswered : {E : Type 0} (Streams : Option Refusal → Type 0) (old new : ClockedDesk) (g : Given) (result : Result Answer E) → Served Streams old new g result → (points : List Point) × Chain old points new × LeavesUnanswered Streams g points
 left-unanswered Streams old new g (Err e) served = (served.points, served.chain, served.left)
 left-unanswered Streams old new g (Ok a) served =
     let to = served.answers.1 in
     (served.points, served.chain, (to.0, to.2, inr (to.3.makes, to.3.streams)))
 
 -- the turn of a request that was answered
-pub record TurnOf (Streams : Option Refusal → Type 0) (old new : Timed) (g : Given) (closes : Bool) (answer : Answer) : Type 0 where
+pub record TurnOf (Streams : Option Refusal → Type 0) (old new : ClockedDesk) (g : Given) (closes : Bool) (answer : Answer) : Type 0 where
   pub turn : Turn
   pub next : NextTurn Streams old new g turn
   pub closes_is : turn.closes ≡ closes
   pub answer_is : turn.answer ≡ answer
 
-pub turn-of : (E : Type 0) (Streams : Option Refusal → Type 0) (old new : Timed) (g : Given) (c : Coming) (answer : Answer) → Comes (Some c) (Some g) → Served {E = E} Streams old new g (Ok answer) → TurnOf Streams old new g c.last answer
+pub turn-of : (E : Type 0) (Streams : Option Refusal → Type 0) (old new : ClockedDesk) (g : Given) (c : Coming) (answer : Answer) → Comes (Some c) (Some g) → Served {E = E} Streams old new g (Ok answer) → TurnOf Streams old new g c.last answer
 turn-of E Streams old new g c answer comes served = record {
   turn = record { given = g; points = served.points; read = served.answers.0; answer = answer; closes = c.last };
   next = record { given = refl; closes = closes-by g.head g.content c.last comes.0.closes comes.2; chain = served.chain; answers = served.answers.1 };
@@ -62,7 +62,7 @@ turn-of E Streams old new g c answer comes served = record {
 }
 
 -- its text is what was written, or a part of that
-pub turn-text : {Streams : Option Refusal → Type 0} {old new : Timed} {g : Given} {closes : Bool} {answer : Answer} (Wrote : List ℕ → Type 0) (t : TurnOf Streams old new g closes answer) → Wrote (answer_text closes answer) → Wrote (answer_text t.turn.closes t.turn.answer)
+pub turn-text : {Streams : Option Refusal → Type 0} {old new : ClockedDesk} {g : Given} {closes : Bool} {answer : Answer} (Wrote : List ℕ → Type 0) (t : TurnOf Streams old new g closes answer) → Wrote (answer_text closes answer) → Wrote (answer_text t.turn.closes t.turn.answer)
 turn-text {closes = closes} {answer = answer} Wrote t wrote = subst Wrote (ap (λ b. answer_text b answer) (sym t.closes_is) ∙ ap (answer_text t.turn.closes) (sym t.answer_is)) wrote
 
 -- why a text wasn't written
@@ -76,12 +76,12 @@ fails-by Ends text held held' end.Long fails part same = absurd fails
 fails-by Ends text held held' end.ReadFault fails part same = absurd fails
 
 -- what an answer that wasn't written makes of desk and sink
-pub answered-fails : (Streams : Option Refusal → Type 0) (old new : Timed) (g : Given) (closes : Bool) (answer : Answer) (held held' : Option (List ℕ)) (e : TalkEnd) → TurnOf Streams old new g closes answer → (points : List Point) × Chain old points new × LeavesUnanswered Streams g points → Fails (answer_text closes answer) held held' e → Answered Streams old new held held' g (Ended e)
+pub answered-fails : (Streams : Option Refusal → Type 0) (old new : ClockedDesk) (g : Given) (closes : Bool) (answer : Answer) (held held' : Option (List ℕ)) (e : TalkEnd) → TurnOf Streams old new g closes answer → (points : List Point) × Chain old points new × LeavesUnanswered Streams g points → Fails (answer_text closes answer) held held' e → Answered Streams old new held held' g (Ended e)
 answered-fails Streams old new g closes answer held held' e t left fails =
     fails-by (λ e. Answered Streams old new held held' g (Ended e)) (answer_text closes answer) held held' e fails (λ part. (t.turn, t.next, turn-text (WritesPart held held') t part)) (λ same. (left, same))
 
 -- a request that is too long is refused without an event
-pub refused-turn : (Streams : Option Refusal → Type 0) (v : Timed) (g : Given) (bare : Bool) → IsTooLong g.head g.content → MatchBool bare (IsBare g.head) (¬ (IsBare g.head)) → NextTurn Streams v v g (record { given = g; points = []; read = []; answer = as_asked bare (error_answer too_long); closes = true })
+pub refused-turn : (Streams : Option Refusal → Type 0) (v : ClockedDesk) (g : Given) (bare : Bool) → IsTooLong g.head g.content → MatchBool bare (IsBare g.head) (¬ (IsBare g.head)) → NextTurn Streams v v g (record { given = g; points = []; read = []; answer = as_asked bare (error_answer too_long); closes = true })
 refused-turn Streams v g bare long bare_is = record {
   given = refl;
   closes = inr long;

@@ -12,7 +12,7 @@ use Rattle.hb_http.specs.declared.places.Place.TheVariants.{Between, Counted, Ch
 use Rattle.hb_http.proofs.Each.{all_push}
 use Rattle.hb_http.proofs.RequestLaws.{HasNoHead-no_request}
 use Rattle.hb_desk.specs.Chains.{Chain}
-use Rattle.hb_desk.specs.Timed.{Timed}
+use Rattle.hb_desk.specs.ClockedDesks.{ClockedDesk}
 use Rattle.hb_desk.specs.Points.{Point}
 use Rattle.hb_desk.specs.declared.refusals.Refusal.{Refusal}
 use Rattle.hb_desk.proofs.Chains.{chain-append, chain-bytes}
@@ -327,7 +327,7 @@ module _ (Streams : Option Refusal → Type 0) (start now : Moment) (talk : Talk
       }
 
   -- and of a request that is left without its answer
-  pub memory-ends : (g : Given) (desk : Timed) (held : Option (List ℕ)) → OneMore (given_by so_far.turns) g bytes → talk.taken ≤ 2 ^ 62 → (points : List Point) × Chain now.desk points desk × LeavesUnanswered Streams g points → held ≡ now.held → Talked Streams start (record { desk = desk; left = now.left; ended = now.ended; held = held }) end.Memory
+  pub memory-ends : (g : Given) (desk : ClockedDesk) (held : Option (List ℕ)) → OneMore (given_by so_far.turns) g bytes → talk.taken ≤ 2 ^ 62 → (points : List Point) × Chain now.desk points desk × LeavesUnanswered Streams g points → held ≡ now.held → Talked Streams start (record { desk = desk; left = now.left; ended = now.ended; held = held }) end.Memory
   memory-ends g desk held one most made same =
       let front = before (given_by so_far.turns) g bytes stay-open one in
       record {
@@ -359,7 +359,7 @@ module _ (Streams : Option Refusal → Type 0) (start now : Moment) (talk : Talk
       }
 
   -- ---- an answer
-  module _ (g : Given) (t : Turn) (desk : Timed) (held : Option (List ℕ)) (next : NextTurn Streams now.desk desk g t) where
+  module _ (g : Given) (t : Turn) (desk : ClockedDesk) (held : Option (List ℕ)) (next : NextTurn Streams now.desk desk g t) where
     abbrev turns' : List Turn
     turns' = so_far.turns ++ t ∷ []
 

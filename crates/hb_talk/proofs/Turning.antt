@@ -11,7 +11,7 @@ use Rattle.hb_http.specs.declared.parts.Part.{Part}
 use Rattle.hb_http.specs.declared.parts.Part.TheVariants.{Head as HeadPart, Body, BodyEnd, NeedInput, InputEnd}
 use Rattle.hb_http.specs.declared.places.Place.{Place}
 use Rattle.hb_http.specs.declared.places.Place.TheVariants.{Between, Counted, Chunked}
-use Rattle.hb_desk.specs.Timed.{Timed}
+use Rattle.hb_desk.specs.ClockedDesks.{ClockedDesk}
 use Rattle.hb_desk.specs.declared.refusals.Refusal.{Refusal}
 use Rattle.hb_talk.specs.Bodies.{IsReadText, IsTooLong}
 use Rattle.hb_talk.specs.Comings.{ComesOf, tells_too_long}
@@ -145,7 +145,7 @@ module _ (Streams : Option Refusal → Type 0) (start now : Moment) (talk : Talk
       go (inr to) = gathered to.0 (subst (λ given. Comes (Some to.0) given) reads.follows.1 (subst (λ coming. Comes coming so_far.given) to.1 so_far.comes)) to.2
 
   -- a request came to its end, and was answered
-  pub end-turn : (s' : Standing) (new : TalkParts) (turned : Turned) (desk : Timed) (held : Option (List ℕ)) → Gives talk.standing (Ok BodyEnd) s' → ReadsOn (given_by so_far.turns) so_far.given so_far.gone talk.standing (Ok BodyEnd) s' → new ≡ record { standing = s'; coming = None; taken = talk.taken } → ((g : Given) → Comes talk.coming (Some g) → Answered Streams now.desk desk now.held held g turned) → GoesOn Streams start (record { desk = desk; left = now.left; ended = now.ended; held = held }) new turned
+  pub end-turn : (s' : Standing) (new : TalkParts) (turned : Turned) (desk : ClockedDesk) (held : Option (List ℕ)) → Gives talk.standing (Ok BodyEnd) s' → ReadsOn (given_by so_far.turns) so_far.given so_far.gone talk.standing (Ok BodyEnd) s' → new ≡ record { standing = s'; coming = None; taken = talk.taken } → ((g : Given) → Comes talk.coming (Some g) → Answered Streams now.desk desk now.held held g turned) → GoesOn Streams start (record { desk = desk; left = now.left; ended = now.ended; held = held }) new turned
   end-turn s' new turned desk held gives reads is answers = go turned (answers g comes)
     where
       g : Given

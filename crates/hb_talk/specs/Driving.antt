@@ -5,7 +5,7 @@ use Rattle.hb_text.specs.Digests.{digest_of}
 use Rattle.hb_records.specs.declared.puts.PutAsk.{PutAsk}
 use Rattle.hb_desk.specs.Chains.{Chain}
 use Rattle.hb_desk.specs.Points.{Point}
-use Rattle.hb_desk.specs.Timed.{Timed}
+use Rattle.hb_desk.specs.ClockedDesks.{ClockedDesk}
 use Rattle.hb_desk.specs.declared.answers.Answer.{Answer}
 use Rattle.hb_desk.specs.declared.refusals.Refusal.{Refusal}
 use Rattle.hb_upload.specs.Places.{Parcel}
@@ -15,7 +15,7 @@ use Rattle.hb_talk.specs.Tasks.Task.{Refuses}
 use Rattle.hb_talk.specs.Turns.{IsDone, IsLeft}
 
 -- A task was done at the desk; or, where memory was wanting, it has no answer.
-pub record Worked {E : Type 0} (Streams : Option Refusal → Type 0) (task : Task) (start now : Timed) (result : Result Answer E) : Type 0 where
+pub record Worked {E : Type 0} (Streams : Option Refusal → Type 0) (task : Task) (start now : ClockedDesk) (result : Result Answer E) : Type 0 where
   pub points : List Point
   pub chain : Chain start points now
   pub done : IfOk result (λ a. (read : List ℕ) × IsDone Streams start.view.told_bytes task points read a)

@@ -13,7 +13,7 @@ use Rattle.hb_http.specs.declared.places.Place.{Place}
 use Rattle.hb_http.specs.declared.places.Place.TheVariants.{Between}
 use Rattle.hb_desk.specs.Chains.{Chain}
 use Rattle.hb_desk.specs.Points.{Point}
-use Rattle.hb_desk.specs.Timed.{Timed}
+use Rattle.hb_desk.specs.ClockedDesks.{ClockedDesk}
 use Rattle.hb_desk.specs.declared.answers.Answer.{Answer}
 use Rattle.hb_desk.specs.declared.refusals.Refusal.{Refusal}
 use Rattle.hb_ops.specs.Errors.{error_answer}
@@ -140,21 +140,21 @@ Reads old new left rest ended ended' (Ended end) = ⊥
 
 -- ---- an answer
 -- what was answered to a request, by the points of its events
-pub record Served {E : Type 0} (Streams : Option Refusal → Type 0) (start now : Timed) (g : Given) (result : Result Answer E) : Type 0 where
+pub record Served {E : Type 0} (Streams : Option Refusal → Type 0) (start now : ClockedDesk) (g : Given) (result : Result Answer E) : Type 0 where
   pub points : List Point
   pub chain : Chain start points now
   pub answers : IfOk result (λ a. (read : List ℕ) × AnswersTo Streams start.view.told_bytes g points read a)
   pub left : IfErr result (λ e. LeavesUnanswered Streams g points)
 
 -- one turn more
-pub record NextTurn (Streams : Option Refusal → Type 0) (start now : Timed) (g : Given) (t : Turn) : Type 0 where
+pub record NextTurn (Streams : Option Refusal → Type 0) (start now : ClockedDesk) (g : Given) (t : Turn) : Type 0 where
   pub given : t.given ≡ g
   pub closes : ClosesBy t
   pub chain : Chain start t.points now
   pub answers : Answers Streams start.view.told_bytes t
 
 -- what answering a request makes of desk and sink
-abbrev pub Answered : (Option Refusal → Type 0) → Timed → Timed → Option (List ℕ) → Option (List ℕ) → Given → Turned → Type 0
+abbrev pub Answered : (Option Refusal → Type 0) → ClockedDesk → ClockedDesk → Option (List ℕ) → Option (List ℕ) → Given → Turned → Type 0
 Answered Streams start now held held' g More = (t : Turn) × NextTurn Streams start now g t × (t.closes ≡ false) × Writes held held' (answer_text t.closes t.answer)
 Answered Streams start now held held' g (Ended Closed) = (t : Turn) × NextTurn Streams start now g t × (t.closes ≡ true) × Writes held held' (answer_text t.closes t.answer)
 Answered Streams start now held held' g (Ended WriteFault) = (t : Turn) × NextTurn Streams start now g t × WritesPart held held' (answer_text t.closes t.answer)

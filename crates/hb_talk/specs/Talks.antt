@@ -12,7 +12,7 @@ use Rattle.hb_http.specs.Requests.{HasNoRequest, IsRequest, Request, RequestsOf,
 use Rattle.hb_http.specs.declared.chunk_places.ChunkPlace.TheVariants.{Bad as BadBody}
 use Rattle.hb_desk.specs.Chains.{Chain}
 use Rattle.hb_desk.specs.Points.{Point}
-use Rattle.hb_desk.specs.Timed.{Timed}
+use Rattle.hb_desk.specs.ClockedDesks.{ClockedDesk}
 use Rattle.hb_desk.specs.declared.refusals.Refusal.{Refusal}
 use Rattle.hb_ops.specs.Errors.{ErrorForm, error_answer, plain}
 use Rattle.hb_talk.specs.Bodies.{AreRead, Closes, IsReadText}
@@ -24,12 +24,12 @@ use Rattle.hb_talk.specs.declared.ends.TalkEnd.TheVariants.{Closed, Cut, Bad, Lo
 -- what desk, clock and devices tell at a moment: the desk's view with the clock's readings from then on, what the source has
 -- left and whether it has ended, and what the sink holds
 pub record Moment : Type 0 where
-  pub desk : Timed
+  pub desk : ClockedDesk
   pub left : Option (List ℕ)
   pub ended : Bool
   pub held : Option (List ℕ)
 
-abbrev pub now_of : Timed → Option (List ℕ) → Bool → Option (List ℕ) → Moment
+abbrev pub now_of : ClockedDesk → Option (List ℕ) → Bool → Option (List ℕ) → Moment
 now_of desk left ended held = record { desk = desk; left = left; ended = ended; held = held }
 
 -- the bytes are these whole requests and then the rest
@@ -153,7 +153,7 @@ HasLeft Streams Memory rest points = (points ≡ []) ⊎ LeavesFirst Streams res
 HasLeft Streams end rest points = points ≡ []
 
 -- Its turns at the desk, one behind another: each answer is that of its request by its points.
-pub record AtDesk (Streams : Option Refusal → Type 0) (start now : Timed) (turns : List Turn) (points : List Point) : Type 0 where
+pub record AtDesk (Streams : Option Refusal → Type 0) (start now : ClockedDesk) (turns : List Turn) (points : List Point) : Type 0 where
   pub chain : Chain start (points ++ points_of turns) now
   pub answers : AllByRecursion (Answers Streams start.view.told_bytes) turns
 

@@ -5,7 +5,7 @@ ghost use Rattle.hb_text.specs.Digests.{digest_of};
 ghost use Rattle.hb_http.specs.AnswerHeads.{HasPhrase};
 ghost use Rattle.hb_desk.specs.Clause.{View};
 ghost use Rattle.hb_desk.specs.Points.{IsStreamFault, Moves};
-ghost use Rattle.hb_desk.specs.Timed.{timed};
+ghost use Rattle.hb_desk.specs.ClockedDesks.{clocked};
 ghost use Rattle.hb_upload.specs.Deciding.{decided};
 ghost use Rattle.hb_upload.specs.Phases.{PhaseFits, is_ended};
 ghost use Rattle.hb_upload.specs.Places.{Parcel};
@@ -55,7 +55,7 @@ fn push<D: Desk, C: Clock>(
     requires fits { PhaseFits D.Stage.upload D.Stage.size D.Stage.bytes push.parcel.digest push.parcel.bytes push.phase (D.view desk.old) }
     requires location { location ≡ location_of push.parcel }
     requires digest { push.parcel.digest ≡ digest }
-    ensures worked { Worked (IsStreamFault D.Stage D.Reader D.Stage.faults D.Reader.faults) (Pushes push.parcel) (timed (D.view desk.old) (C.readings clock.old)) (timed (D.view desk.new) (C.readings clock.new)) result }
+    ensures worked { Worked (IsStreamFault D.Stage D.Reader D.Stage.faults D.Reader.faults) (Pushes push.parcel) (clocked (D.view desk.old) (C.readings clock.old)) (clocked (D.view desk.new) (C.readings clock.new)) result }
     ensures moves { Moves (D.view desk.old) (D.view desk.new) }
     ensures phrase { IfOk result (λ a. HasPhrase a.status) }
 {
@@ -75,7 +75,7 @@ fn push_blob<D: Desk, C: Clock>(
     digest: Digest,
     body: Text,
 ) -> Result<Answer, Memory>
-    ensures worked { Worked (IsStreamFault D.Stage D.Reader D.Stage.faults D.Reader.faults) (Pushes (record { name = name; digest = digest; bytes = body; put = None })) (timed (D.view desk.old) (C.readings clock.old)) (timed (D.view desk.new) (C.readings clock.new)) result }
+    ensures worked { Worked (IsStreamFault D.Stage D.Reader D.Stage.faults D.Reader.faults) (Pushes (record { name = name; digest = digest; bytes = body; put = None })) (clocked (D.view desk.old) (C.readings clock.old)) (clocked (D.view desk.new) (C.readings clock.new)) result }
     ensures moves { Moves (D.view desk.old) (D.view desk.new) }
     ensures phrase { IfOk result (λ a. HasPhrase a.status) }
 {
@@ -94,7 +94,7 @@ fn get<D: Desk, C: Clock>(
     requires ready { is_got get.phase ≡ false }
     requires went { GetWent get get [] }
     requires fits { (v : View) → GetFits get.phase v }
-    ensures worked { Worked (IsStreamFault D.Stage D.Reader D.Stage.faults D.Reader.faults) (Gets get.sought) (timed (D.view desk.old) (C.readings clock.old)) (timed (D.view desk.new) (C.readings clock.new)) result }
+    ensures worked { Worked (IsStreamFault D.Stage D.Reader D.Stage.faults D.Reader.faults) (Gets get.sought) (clocked (D.view desk.old) (C.readings clock.old)) (clocked (D.view desk.new) (C.readings clock.new)) result }
     ensures moves { Moves (D.view desk.old) (D.view desk.new) }
     ensures phrase { IfOk result (λ a. HasPhrase a.status) }
 {
@@ -115,7 +115,7 @@ fn check<D: Desk, C: Clock>(
 ) -> Result<Answer, Memory>
     requires ready { check.ended ≡ None }
     requires went { CheckWent check check [] }
-    ensures worked { Worked (IsStreamFault D.Stage D.Reader D.Stage.faults D.Reader.faults) (Checks check.ask) (timed (D.view desk.old) (C.readings clock.old)) (timed (D.view desk.new) (C.readings clock.new)) result }
+    ensures worked { Worked (IsStreamFault D.Stage D.Reader D.Stage.faults D.Reader.faults) (Checks check.ask) (clocked (D.view desk.old) (C.readings clock.old)) (clocked (D.view desk.new) (C.readings clock.new)) result }
     ensures moves { Moves (D.view desk.old) (D.view desk.new) }
     ensures phrase { IfOk result (λ a. HasPhrase a.status) }
 {
@@ -186,7 +186,7 @@ fn put_manifest<D: Desk, C: Clock>(
     media: Option<&[u8]>,
     body: Text,
 ) -> Result<Answer, Memory>
-    ensures worked { Worked (IsStreamFault D.Stage D.Reader D.Stage.faults D.Reader.faults) (task_of (Wanted.PutManifest name reference) (option_copied media.entry) body) (timed (D.view desk.old) (C.readings clock.old)) (timed (D.view desk.new) (C.readings clock.new)) result }
+    ensures worked { Worked (IsStreamFault D.Stage D.Reader D.Stage.faults D.Reader.faults) (task_of (Wanted.PutManifest name reference) (option_copied media.entry) body) (clocked (D.view desk.old) (C.readings clock.old)) (clocked (D.view desk.new) (C.readings clock.new)) result }
     ensures moves { Moves (D.view desk.old) (D.view desk.new) }
     ensures phrase { IfOk result (λ a. HasPhrase a.status) }
 {
@@ -211,7 +211,7 @@ pub(crate) fn serve<D: Desk, C: Clock>(
     media: &Option<Text>,
     body: Text,
 ) -> Result<Answer, Memory>
-    ensures worked { Worked (IsStreamFault D.Stage D.Reader D.Stage.faults D.Reader.faults) (task_of wanted media.now body) (timed (D.view desk.old) (C.readings clock.old)) (timed (D.view desk.new) (C.readings clock.new)) result }
+    ensures worked { Worked (IsStreamFault D.Stage D.Reader D.Stage.faults D.Reader.faults) (task_of wanted media.now body) (clocked (D.view desk.old) (C.readings clock.old)) (clocked (D.view desk.new) (C.readings clock.new)) result }
     ensures moves { Moves (D.view desk.old) (D.view desk.new) }
     ensures phrase { IfOk result (λ a. HasPhrase a.status) }
 {

@@ -7,7 +7,7 @@ ghost use Rattle.hb_http.specs.Standing.{fresh};
 ghost use Rattle.hb_http.specs.declared.TheConstants.{MAX_HEAD};
 ghost use Rattle.hb_outside.specs.Streams.{Writes};
 ghost use Rattle.hb_desk.specs.Points.{IsStreamFault, Moves};
-ghost use Rattle.hb_desk.specs.Timed.{timed};
+ghost use Rattle.hb_desk.specs.ClockedDesks.{clocked};
 ghost use Rattle.hb_ops.specs.Errors.{error_answer, plain};
 ghost use Rattle.hb_talk.specs.Texts.{answer_text};
 ghost use Rattle.hb_talk.specs.Progress.{Answered, Begins, Came, Comes, EndsBy, EndsFault, Fails, Gathers, GoesOn, Progress, Reads, Served, too_long_text, work_left};
@@ -130,7 +130,7 @@ fn answer_of<D: Desk, C: Clock>(
     clock: &mut C,
     coming: Coming,
 ) -> Result<Answer, Memory>
-    ensures served { (g : Given) → Comes (Some coming) (Some g) → Served (IsStreamFault D.Stage D.Reader D.Stage.faults D.Reader.faults) (timed (D.view desk.old) (C.readings clock.old)) (timed (D.view desk.new) (C.readings clock.new)) g result }
+    ensures served { (g : Given) → Comes (Some coming) (Some g) → Served (IsStreamFault D.Stage D.Reader D.Stage.faults D.Reader.faults) (clocked (D.view desk.old) (C.readings clock.old)) (clocked (D.view desk.new) (C.readings clock.new)) g result }
     ensures moves { Moves (D.view desk.old) (D.view desk.new) }
     ensures phrase { IfOk result (λ a. HasPhrase a.status) }
 {
@@ -244,7 +244,7 @@ impl Connection {
         clock: &mut C,
         out: &mut O,
     ) -> Turned
-        ensures answered { (g : Given) → Comes self.old.coming (Some g) → Answered (IsStreamFault D.Stage D.Reader D.Stage.faults D.Reader.faults) (timed (D.view desk.old) (C.readings clock.old)) (timed (D.view desk.new) (C.readings clock.new)) (O.held out.old) (O.held out.new) g result }
+        ensures answered { (g : Given) → Comes self.old.coming (Some g) → Answered (IsStreamFault D.Stage D.Reader D.Stage.faults D.Reader.faults) (clocked (D.view desk.old) (C.readings clock.old)) (clocked (D.view desk.new) (C.readings clock.new)) (O.held out.old) (O.held out.new) g result }
         ensures moves { Moves (D.view desk.old) (D.view desk.new) }
         ensures next { self.new ≡ record { standing = self.old.standing; coming = None; taken = self.old.taken } }
         ensures later { O.faults out.old ≤ O.faults out.new }
@@ -296,8 +296,8 @@ impl Connection {
         input: &mut I,
         out: &mut O,
     ) -> Turned
-        ensures talk { (start : Moment) → Progress (IsStreamFault D.Stage D.Reader D.Stage.faults D.Reader.faults) start (now_of (timed (D.view desk.old) (C.readings clock.old)) (I.left input.old) (I.ended input.old) (O.held out.old)) self.old
-            → GoesOn (IsStreamFault D.Stage D.Reader D.Stage.faults D.Reader.faults) start (now_of (timed (D.view desk.new) (C.readings clock.new)) (I.left input.new) (I.ended input.new) (O.held out.new)) self.new result }
+        ensures talk { (start : Moment) → Progress (IsStreamFault D.Stage D.Reader D.Stage.faults D.Reader.faults) start (now_of (clocked (D.view desk.old) (C.readings clock.old)) (I.left input.old) (I.ended input.old) (O.held out.old)) self.old
+            → GoesOn (IsStreamFault D.Stage D.Reader D.Stage.faults D.Reader.faults) start (now_of (clocked (D.view desk.new) (C.readings clock.new)) (I.left input.new) (I.ended input.new) (O.held out.new)) self.new result }
         ensures moves { Moves (D.view desk.old) (D.view desk.new) }
         ensures less { result ≡ Turned.More → work_left self.new < work_left self.old }
         ensures read_later { I.faults input.old ≤ I.faults input.new }
@@ -323,8 +323,8 @@ impl Connection {
         input: &mut I,
         out: &mut O,
     ) -> TalkEnd
-        ensures talk { (start : Moment) → Progress (IsStreamFault D.Stage D.Reader D.Stage.faults D.Reader.faults) start (now_of (timed (D.view desk.old) (C.readings clock.old)) (I.left input.old) (I.ended input.old) (O.held out.old)) self.old
-            → Talked (IsStreamFault D.Stage D.Reader D.Stage.faults D.Reader.faults) start (now_of (timed (D.view desk.new) (C.readings clock.new)) (I.left input.new) (I.ended input.new) (O.held out.new)) result }
+        ensures talk { (start : Moment) → Progress (IsStreamFault D.Stage D.Reader D.Stage.faults D.Reader.faults) start (now_of (clocked (D.view desk.old) (C.readings clock.old)) (I.left input.old) (I.ended input.old) (O.held out.old)) self.old
+            → Talked (IsStreamFault D.Stage D.Reader D.Stage.faults D.Reader.faults) start (now_of (clocked (D.view desk.new) (C.readings clock.new)) (I.left input.new) (I.ended input.new) (O.held out.new)) result }
         ensures moves { Moves (D.view desk.old) (D.view desk.new) }
         ensures read { result ≡ TalkEnd.ReadFault → Rose (I.faults input.old) (I.faults input.new) }
         ensures written { result ≡ TalkEnd.WriteFault → Rose (O.faults out.old) (O.faults out.new) }
@@ -348,8 +348,8 @@ pub fn talk<D: Desk, C: Clock, I: Source, O: Sink>(
     out: &mut O,
 ) -> TalkEnd
     ensures talk { Talked (IsStreamFault D.Stage D.Reader D.Stage.faults D.Reader.faults)
-        (now_of (timed (D.view desk.old) (C.readings clock.old)) (I.left input.old) (I.ended input.old) (O.held out.old))
-        (now_of (timed (D.view desk.new) (C.readings clock.new)) (I.left input.new) (I.ended input.new) (O.held out.new)) result }
+        (now_of (clocked (D.view desk.old) (C.readings clock.old)) (I.left input.old) (I.ended input.old) (O.held out.old))
+        (now_of (clocked (D.view desk.new) (C.readings clock.new)) (I.left input.new) (I.ended input.new) (O.held out.new)) result }
     ensures moves { Moves (D.view desk.old) (D.view desk.new) }
     ensures read { result ≡ TalkEnd.ReadFault → Rose (I.faults input.old) (I.faults input.new) }
     ensures written { result ≡ TalkEnd.WriteFault → Rose (O.faults out.old) (O.faults out.new) }

@@ -1,5 +1,5 @@
 use Rattle.std.proofs.Common.{Ok, ap, subst}
-use Rattle.hb_desk.specs.Timed.{timed}
+use Rattle.hb_desk.specs.ClockedDesks.{clocked}
 use Rattle.hb_http.specs.Parts.{Gives}
 use Rattle.hb_http.specs.Readings.{ReadsOn}
 use Rattle.hb_talk.specs.Progress.{Begins, Gathers, Reads}
@@ -58,7 +58,7 @@ pub returns-in-Ok-BodyEnd-clause-talk : goal.returns-in-Ok-BodyEnd-clause-talk
 returns-in-Ok-BodyEnd-clause-talk g c = rw (← c.self.view_is) (λ start so_far.
     let part = c.in-Ok-BodyEnd.ensures in
     let is = c.in-Ok-BodyEnd.field-0-is in
-    end-turn _ start _ _ so_far c.self.invariant.1 c.part.new.self c.answer.new.self c.answer.result (timed (g.D.Desk.view c.answer.new.desk) (g.C.Clock.readings c.answer.new.clock)) (g.O.Sink.held c.answer.new.out)
+    end-turn _ start _ _ so_far c.self.invariant.1 c.part.new.self c.answer.new.self c.answer.result (clocked (g.D.Desk.view c.answer.new.desk) (g.C.Clock.readings c.answer.new.clock)) (g.O.Sink.held c.answer.new.out)
     (subst (λ p. Gives c.self.inside.session (Ok p) c.part.new.self) is part.gives)
     (subst (λ p. ReadsOn (given_by so_far.turns) so_far.given so_far.gone c.self.inside.session (Ok p) c.part.new.self) is (part.reads (given_by so_far.turns) so_far.given so_far.gone so_far.reads))
     c.answer.ensures.next c.answer.ensures.answered)
