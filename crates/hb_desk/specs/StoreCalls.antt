@@ -7,6 +7,9 @@ use Rattle.hb_store.specs.Calls.{Becomes}
 use Rattle.hb_store.specs.Contents.{Contents, stage_key}
 use Rattle.hb_store.specs.declared.store.StoreFault.{StoreFault}
 use Rattle.hb_store.specs.declared.store.StoreFault.TheVariants as store
+use Rattle.hb_model.specs.Registry.{upload_in}
+use Rattle.hb_model.specs.Replay.{replay}
+use Rattle.hb_desk.specs.State.{State}
 use Rattle.hb_desk.specs.declared.refusals.Refusal.{Refusal}
 use Rattle.hb_desk.specs.declared.refusals.Refusal.TheVariants.{Memory, Storage}
 
@@ -22,6 +25,10 @@ abbrev pub OneCall : {T : Type 0} → (Result (Unit {0}) StoreFault → Contents
 OneCall Effect old t result new =
     (IsErr result × (¬ (IsErrOf result Storage)) × (new ≡ old))
     ⊎ ((answer : Result (Unit {0}) StoreFault) × AnsweredAs answer result × Becomes old t (Effect answer) new)
+
+-- as many of the upload's bytes are acknowledged, where the registry is told and it has the upload
+abbrev pub AreAcknowledged : Option State → ℕ → ℕ → Type 0
+AreAcknowledged state upload keep = IfSome state (λ s. IfSome (upload_in (replay s.audit) upload) (λ x. x.offset ≡ keep))
 
 -- the upload has no stage in what the store tells
 abbrev pub HasNoStage : Option Contents → ℕ → Type 0

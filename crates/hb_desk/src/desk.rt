@@ -6,7 +6,7 @@ ghost use Rattle.hb_store.specs.Calls.{Dropping, Placing, Stages, Staging, Uncha
 ghost use Rattle.hb_store.specs.Contents.{Contents};
 ghost use Rattle.hb_desk.specs.Calls.{Asked, StageTaken, StagePlaced, StageDropped, BlobOpened, ManifestOpened, Tells, StageAt, Number, Dropped, Content, plain};
 ghost use Rattle.hb_desk.specs.Clause.{View, Causes, EventOf, Known, Seals};
-ghost use Rattle.hb_desk.specs.StoreCalls.{HasNoStage, OneCall};
+ghost use Rattle.hb_desk.specs.StoreCalls.{AreAcknowledged, HasNoStage, OneCall};
 ghost use Rattle.hb_desk.specs.Notes.{sealed_at};
 
 use crate::asks::Ask;
@@ -58,7 +58,7 @@ pub trait Desk {
         ensures causes { Causes (view self.old) (view self.new) now (StageTaken name.now upload start) (plain (λ s. StageAt s.offset) result) }
         ensures made { IfOk result (λ s. (Self.Stage.upload s.stage ≡ upload) × (Self.Stage.size s.stage ≡ s.offset)) }
         ensures staged { IfOk result (λ s. Stages (contents self.new) upload s.offset (Self.Stage.bytes s.stage)) }
-        ensures store { (view self.old).sole ≡ true → (keep : ℕ) × IfOk result (λ s. s.offset ≡ keep) × OneCall (Staging upload keep) (contents self.old) (view self.new).moment result (contents self.new) }
+        ensures store { (view self.old).sole ≡ true → (keep : ℕ) × AreAcknowledged (view self.old).state upload keep × IfOk result (λ s. s.offset ≡ keep) × OneCall (Staging upload keep) (contents self.old) (view self.new).moment result (contents self.new) }
         ensures bytes { (view self.old).told_bytes ≡ true → IfOk result (λ s. IsSomeAnd (Self.Stage.bytes s.stage) (λ b. length b ≡ s.offset)) };
 
     /// Makes a stage's bytes the content of the digest that the caller sealed, and gives the number of its

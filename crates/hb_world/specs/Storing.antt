@@ -17,6 +17,10 @@ IsStoreFault refusal = (refusal ≡ Memory) ⊎ (refusal ≡ Storage)
 abbrev pub RowsReply : Option Tables → Notes → Call → Outcome → Type 0
 RowsReply rows n call outcome = IfSome rows (λ r. is_fault false outcome ≡ false → outcome ≡ (row_reply call r n).outcome)
 
+-- the upload's row has the offset, where the rows are told and have one
+abbrev pub HasOffset : Option Tables → ℕ → ℕ → Type 0
+HasOffset rows upload keep = IfSome rows (λ r. IfSome (upload_at r upload) (λ x. x.offset ≡ keep))
+
 -- the reply to a stage that is taken, where the project is there
 abbrev pub upload_over : Tables → Notes → List ℕ → ℕ → Option ℕ → Reply
 upload_over r n name upload start = refuse (no_upload_row_of r name upload) (take_over n upload start (upload_at r upload))

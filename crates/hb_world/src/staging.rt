@@ -12,7 +12,7 @@ ghost use Rattle.hb_desk.specs.Noting.{handed_back, placing, taking_out};
 ghost use Rattle.hb_desk.specs.declared.refusals.Refusal.TheVariants.{Keeper as KeeperFailed, Storage, Spent};
 ghost use Rattle.hb_desk.specs.StoreCalls.{HasNoStage, OneCall};
 ghost use Rattle.hb_world.specs.StoreStands.{Stands};
-ghost use Rattle.hb_world.specs.Storing.{IsStoreFault, RowsReply, upload_over};
+ghost use Rattle.hb_world.specs.Storing.{HasOffset, IsStoreFault, RowsReply, upload_over};
 
 use crate::looking::has_project;
 use crate::refusing::{keep_refusal, store_refusal};
@@ -34,6 +34,7 @@ fn offset_of(
 ) -> Result<u64, Refusal>
     ensures reply { (r : Tables) (n : Notes) → upload_at r upload ≡ row.now → stage_is_out n upload ≡ out
         → plain StageAt result ≡ (upload_over r n name.now upload start).outcome }
+    ensures offset { IfOk result (λ o. IfSome row.now (λ x. x.offset ≡ o)) }
     ensures keeper { ¬ (IsErrOf result KeeperFailed) }
     ensures storage { ¬ (IsErrOf result Storage) }
     ensures spent { ¬ (IsErrOf result Spent) }
@@ -68,6 +69,7 @@ fn find_offset<K: Keeper>(
     out: bool,
 ) -> Result<u64, Refusal>
     ensures reply { (n : Notes) → stage_is_out n upload ≡ out → RowsReply (K.rows keeper.old) n (StageTaken name.now upload start) (plain StageAt result) }
+    ensures offset { IfOk result (λ o. HasOffset (K.rows keeper.old) upload o) }
     ensures rows { K.rows keeper.new ≡ K.rows keeper.old }
     ensures later { K.faults keeper.old ≤ K.faults keeper.new }
     ensures keeper { IsErrOf result KeeperFailed → Rose (K.faults keeper.old) (K.faults keeper.new) }
@@ -99,7 +101,7 @@ pub(crate) fn take_stage<K: Keeper, S: Store>(
     ensures made { IfOk result (λ s. (S.Stage.upload s.stage ≡ upload) × (S.Stage.size s.stage ≡ s.offset)) }
     ensures bytes { IfSome (S.contents store.old) (λ _. IfOk result (λ s. IsSomeAnd (S.Stage.bytes s.stage) (λ b. length b ≡ s.offset))) }
     ensures staged { IfOk result (λ s. Stages (S.contents store.new) upload s.offset (S.Stage.bytes s.stage)) }
-    ensures called { (keep : ℕ) × IfOk result (λ s. s.offset ≡ keep) × OneCall (Staging upload keep) (S.contents store.old) moment result (S.contents store.new) }
+    ensures called { (keep : ℕ) × HasOffset (K.rows keeper.old) upload keep × IfOk result (λ s. s.offset ≡ keep) × OneCall (Staging upload keep) (S.contents store.old) moment result (S.contents store.new) }
     ensures rows { K.rows keeper.new ≡ K.rows keeper.old }
     ensures stands { Stands (S.contents store.old) (S.contents store.new) }
     ensures keeper_later { K.faults keeper.old ≤ K.faults keeper.new }
