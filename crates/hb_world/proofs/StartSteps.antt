@@ -23,17 +23,16 @@ use Rattle.hb_model.specs.Fit.{Tells, unbuilt_at}
 use Rattle.hb_model.specs.History.{Legal, Stands, latest}
 use Rattle.hb_model.specs.LegalProjects.{library}
 use Rattle.hb_model.specs.ProjectEffects.{make_project}
-use Rattle.hb_model.specs.Registry.{Registry}
-use Rattle.hb_model.specs.Replay.{replay}
-use Rattle.hb_model.specs.Sound.{IsSound}
 use Rattle.hb_model.specs.Whole.{IsWhole, no_notes}
 use Rattle.hb_model.specs.declared.misfits.Misfit.{Misfit}
 use Rattle.hb_model.proofs.WholeSteps.{quiet-whole, whole-without_notes}
 use Rattle.hb_plan.specs.BuiltAudits.{AllBuilt}
+use Rattle.hb_world.specs.Pullable.{IsPullable}
 use Rattle.hb_world.specs.Starting.{CanStart, IsAtRest, Started, first_entry, opened_by}
 use Rattle.hb_world.specs.Worlds.{IsTrueStore, IsWorld, RowsStand, Shown}
 use Rattle.hb_world.proofs.StoreSteps.{found_bytes}
 use Rattle.hb_model.proofs.FitLaws.{fit-or-not, fits-apart}
+use Rattle.hb_history.proofs.NamedArtifacts.{children-there, tags-there}
 use Rattle.hb_history.proofs.WholeSound.{sound-whole}
 
 -- ---- the first entry
@@ -186,17 +185,6 @@ started-world rows contents now after keeper_faults store_faults notes entries m
     stand : Holds after
     stand = go rows can started
 
--- what is told of a world is sound
-pub told-sound : (rows : Option Tables) (contents : Option Contents) (n : Notes) (t : ℕ) → IfSome rows (λ r. IfSome contents (λ c. IsWhole r n c t)) → IfSome rows (λ r. IfSome contents (λ c. IsSound (replay r.audit) c))
-told-sound None contents n t h = tt
-told-sound (Some r) None n t h = tt
-told-sound (Some r) (Some c) n t h = sound-whole r n c t h
-
--- what each artifact of a legal audit meets, the told audit's do
-pub told-artifacts : (P : Registry → Type 0) (rows : Option Tables) (w : Shown) → ((r : Tables) → RowsStand r w → P (replay r.audit)) → IfSome rows (λ r. RowsStand r w) → IfSome rows (λ r. P (replay r.audit))
-told-artifacts P None w law h = tt
-told-artifacts P (Some r) w law h = law r h
-
 -- the devices of a world that is closed
 pub closed-rest : (w : Shown) → IsWorld w → IsAtRest w.rows w.contents
 closed-rest w h = go w.rows w.contents h.rows h.whole h.bytes
@@ -206,6 +194,12 @@ closed-rest w h = go w.rows w.contents h.rows h.whole h.bytes
     go None (Some c) rows whole bytes = bytes
     go (Some r) None rows whole bytes = rows.stands
     go (Some r) (Some c) rows whole bytes = at-moment r c w.moment (latest r.audit) (omega arith) (whole-without_notes r w.notes c w.moment whole)
+
+-- devices at rest
+pub rest-pullable : (rows : Option Tables) (contents : Option Contents) → IsAtRest rows contents → IfSome rows (λ r. IsPullable r contents)
+rest-pullable None contents rest = tt
+rest-pullable (Some r) None stand = record { children = children-there r.audit stand.history; tags = tags-there r.audit; sound = tt }
+rest-pullable (Some r) (Some c) whole = record { children = children-there r.audit whole.stands.history; tags = tags-there r.audit; sound = sound-whole r no_notes c (latest r.audit) whole }
 
 -- ---- refusals
 pub told-misfit : (before : Option Tables) (rows : Tables) (m n : Misfit) → Tells rows (Some m) → IfSome before (λ t. rows ≡ t) → m ≡ n → IfSome before (λ t. Tells t (Some n))

@@ -1,4 +1,5 @@
 pub mod Asking
+pub mod Pullable
 pub mod Reading
 pub mod Remembering
 pub mod Starting

@@ -3,12 +3,9 @@ ghost use Rattle.std.specs.Prelude.{◌≡◌, ◌≤◌, Some, IfOk, IfErr, IfS
 ghost use Rattle.hb_keeper.specs.declared.keeper.KeepFault.TheVariants as keep;
 ghost use Rattle.hb_rows.specs.Tables.{empty_tables};
 ghost use Rattle.hb_store.specs.MemStores.{empty_contents};
-ghost use Rattle.hb_history.specs.Artifacts.{ChildrenAreThere, TagsNameArtifacts};
-ghost use Rattle.hb_model.specs.Replay.{replay};
-ghost use Rattle.hb_model.specs.Sound.{IsSound};
 ghost use Rattle.hb_model.specs.Whole.{no_notes};
+ghost use Rattle.hb_world.specs.Pullable.{IsPullable};
 ghost use Rattle.hb_world.specs.Starting.{CanStart, IsAtRest, Refused, Started};
-ghost use Rattle.hb_world.specs.Worlds.{IsWorld, shown};
 ghost use Rattle.hb_world.specs.declared.world.StartFault.TheVariants.{Failed, Memory};
 
 use crate::remembered::Remembered;
@@ -148,24 +145,13 @@ impl<K: Keeper, S: Store> World<K, S> {
         }
     }
 
-    /// Its rows are those of a legal audit, and rows, contents and what is remembered fit one another: what clients
-    /// see after the audit is stored, with bytes of its digest; each child of an index is an artifact of the same
-    /// repository, and so is what a tag names. It does nothing, and its contract is what holds of a world at every
-    /// event.
-    pub fn holds(&self)
-        ensures whole { IsWorld (shown K.rows K.faults S.contents S.faults self.now) }
-        ensures sound { IfSome (K.rows self.now.keeper) (λ r. IfSome (S.contents self.now.store) (λ c. IsSound (replay r.audit) c)) }
-        ensures children { IfSome (K.rows self.now.keeper) (λ r. ChildrenAreThere (replay r.audit)) }
-        ensures tags { IfSome (K.rows self.now.keeper) (λ r. TagsNameArtifacts (replay r.audit)) }
-    {
-        let _moment = self.moment;
-    }
-
-    /// The devices, on which a world starts again.
+    /// The devices, on which a world starts again. Where they tell rows and contents, what clients see after the rows'
+    /// audit can be pulled from them.
     pub fn close(self) -> (K, S)
         ensures keeper { result.0 ≡ self.keeper }
         ensures store { result.1 ≡ self.store }
         ensures rest { IsAtRest (K.rows result.0) (S.contents result.1) }
+        ensures pullable { IfSome (K.rows result.0) (λ r. IsPullable r (S.contents result.1)) }
     {
         let World {
             alloc: _,
