@@ -4,6 +4,7 @@ ghost use Rattle.hb_outside.specs.Causes.{Rose};
 ghost use Rattle.hb_outside.specs.Clocks.{behind};
 ghost use Rattle.hb_desk.specs.Points.{IsStreamFault};
 ghost use Rattle.hb_desk.specs.ClockedDesks.{clocked};
+ghost use Rattle.hb_world.specs.Pullable.{IsPullable};
 ghost use Rattle.hb_world.specs.Starting.{CanStart, IsAtRest, IsMisfit};
 ghost use Rattle.hb_world.specs.Worlds.{WorldParts, shown, view_of};
 ghost use Rattle.hb_talk.specs.Talks.{Talked, now_of};
@@ -78,6 +79,7 @@ fn converse<K: Keeper, S: Store, C: Clock, I: Source, O: Sink>(
         (now_of (clocked (view_of (shown K.rows K.faults S.contents S.faults world)) (C.readings clock.old)) (I.left input.old) (I.ended input.old) (O.held out.old))
         (now_of (clocked (view_of (shown K.rows K.faults S.contents S.faults left)) (C.readings clock.new)) (I.left input.new) (I.ended input.new) (O.held out.new)) end }
     ensures rest { IsAtRest (K.rows result.keeper) (S.contents result.store) }
+    ensures pullable { IfSome (K.rows result.keeper) (λ r. IsPullable r (S.contents result.store)) }
     ensures later { K.faults world.keeper ≤ K.faults result.keeper }
     ensures read { result.status ≡ 3 → Rose (I.faults input.old) (I.faults input.new) }
     ensures written { result.status ≡ 4 → Rose (O.faults out.old) (O.faults out.new) }
@@ -98,7 +100,8 @@ fn converse<K: Keeper, S: Store, C: Clock, I: Source, O: Sink>(
 /// the input and writes their answers, until the input ends, a request closes, or a device fails. Other words
 /// are status 2, and `usage` is written. A start that is refused reads and writes nothing, and leaves the rows.
 ///
-/// Devices at rest are at rest again when they are handed back, whatever the status.
+/// Devices at rest are at rest again when they are handed back, whatever the status, and what clients see after the rows'
+/// audit can then be pulled from them.
 ///
 /// | status | comes |
 /// |---|---|
@@ -132,6 +135,7 @@ pub fn run<K: Keeper, S: Store, C: Clock, I: Source, O: Sink>(
     ensures misfit { IsTalk words.now → IsMisfit (K.rows keeper) → (result.status ≡ 8) ⊎ (result.status ≡ 5) ⊎ (result.status ≡ 7) }
     ensures unfit { result.status ≡ 8 → IfSome (K.rows keeper) (λ t. IsMisfit (Some t)) }
     ensures rest { IsAtRest (K.rows keeper) (S.contents store) → IsAtRest (K.rows result.keeper) (S.contents result.store) }
+    ensures pullable { IsAtRest (K.rows keeper) (S.contents store) → IfSome (K.rows result.keeper) (λ r. IsPullable r (S.contents result.store)) }
     ensures words { (result.status ≡ 2) ↔ ¬ (IsTalk words.now) }
     ensures usage { ¬ (IsTalk words.now) → SaysUsage (O.held out.old) (O.held out.new) (O.faults out.old) (O.faults out.new) × (input.new ≡ input.old) × (result.keeper ≡ keeper) × (result.store ≡ store) }
     ensures read { result.status ≡ 3 → Rose (I.faults input.old) (I.faults input.new) }

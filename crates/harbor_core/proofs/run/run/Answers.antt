@@ -3,6 +3,7 @@ use Rattle.hb_records.specs.declared.notes.Notes.{Notes}
 use Rattle.hb_desk.specs.Clause.{View}
 use Rattle.hb_desk.specs.Keeping.{state_of}
 use Rattle.hb_world.specs.Worlds.{shown, view_of}
+use Rattle.hb_world.proofs.StartSteps.{rest-pullable}
 use Rattle.harbor_core.proofs.Running.{left-rows, opened-on, refused-misfit, started-fits, talked-fits, talked-from}
 use Rattle.harbor_core.proofs.run.run.Goals as goal
 
@@ -40,3 +41,9 @@ returns-in-Ok-clause-unfit g c = λ is. absurd (talked-fits c.converse.ensures.t
 
 pub returns-in-Err-clause-unfit : goal.returns-in-Err-clause-unfit
 returns-in-Err-clause-unfit g c = λ is. refused-misfit (g.K.Keeper.rows c.args.keeper) _ _ _ c.in-Err.refused.fault c.in-Err.ensures.refused (sym c.status_of_fault.ensures ∙ is)
+
+pub returns-then-not-is_talk-clause-pullable : goal.returns-then-not-is_talk-clause-pullable
+returns-then-not-is_talk-clause-pullable g c = rest-pullable (g.K.Keeper.rows c.args.keeper) (g.S.Store.contents c.args.store)
+
+pub returns-in-Err-clause-pullable : goal.returns-in-Err-clause-pullable
+returns-in-Err-clause-pullable g c = λ rest. rest-pullable (g.K.Keeper.rows c.in-Err.refused.keeper) (g.S.Store.contents c.in-Err.refused.store) (rw (c.in-Err.ensures.refused.same, c.in-Err.ensures.kept) rest)
