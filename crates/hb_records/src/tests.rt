@@ -89,7 +89,7 @@ fn tag(alloc: Global, text: &[u8]) -> Result<Tag, Fail> {
 }
 
 #[test]
-fn rows_of_content_are_copied(rt: HostRuntime) -> Result<(), Fail> {
+fn rows_of_digests_are_copied(rt: HostRuntime) -> Result<(), Fail> {
     let alloc = rt.alloc();
     let blob = Blob {
         digest: digest(1),
@@ -109,7 +109,11 @@ fn rows_of_content_are_copied(rt: HostRuntime) -> Result<(), Fail> {
     let pair = pair.copy(alloc)?;
     assert_eq!(rt; pair.project.bytes(), b"library".as_slice());
     assert_eq!(rt; (pair.digest, pair.size, pair.touched), (digest(1), 3, 5));
-    let artifact = Artifact {
+    Ok(())
+}
+
+fn artifact(alloc: Global) -> Result<Artifact, Fail> {
+    Ok(Artifact {
         name: name(alloc)?,
         digest: digest(2),
         size: 7,
@@ -119,8 +123,12 @@ fn rows_of_content_are_copied(rt: HostRuntime) -> Result<(), Fail> {
         pushed: 5,
         pulled: 6,
         version: 8,
-    };
-    let artifact = artifact.copy(alloc)?;
+    })
+}
+
+#[test]
+fn artifacts_are_copied(rt: HostRuntime) -> Result<(), Fail> {
+    let artifact = artifact(rt.alloc())?.copy(rt.alloc())?;
     assert_eq!(rt; artifact.name.bytes(), b"library/a".as_slice());
     assert_eq!(rt; artifact.media.bytes().len(), 42);
     assert_eq!(rt; artifact.refs.as_slice(), [digest(3), digest(1)].as_slice());
@@ -133,33 +141,42 @@ fn rows_of_content_are_copied(rt: HostRuntime) -> Result<(), Fail> {
     Ok(())
 }
 
-#[test]
-fn rows_of_names_are_copied(rt: HostRuntime) -> Result<(), Fail> {
-    let alloc = rt.alloc();
-    let row = TagRow {
+fn tag_row(alloc: Global) -> Result<TagRow, Fail> {
+    Ok(TagRow {
         name: name(alloc)?,
         tag: tag(alloc, b"v1")?,
         digest: digest(2),
         pushed: 5,
         version: 8,
-    };
-    let row = row.copy(alloc)?;
-    assert_eq!(rt; row.tag.bytes(), b"v1".as_slice());
-    assert_eq!(rt; (row.digest, row.pushed, row.version), (digest(2), 5, 8));
-    let upload = Upload {
+    })
+}
+
+fn upload(alloc: Global) -> Result<Upload, Fail> {
+    Ok(Upload {
         id: 2,
         name: name(alloc)?,
         offset: 3,
         touched: 4,
         version: 5,
-    };
-    let upload = upload.copy(alloc)?;
+    })
+}
+
+#[test]
+fn rows_of_names_are_copied(rt: HostRuntime) -> Result<(), Fail> {
+    let row = tag_row(rt.alloc())?.copy(rt.alloc())?;
+    assert_eq!(rt; row.tag.bytes(), b"v1".as_slice());
+    assert_eq!(rt; (row.digest, row.pushed, row.version), (digest(2), 5, 8));
+    let upload = upload(rt.alloc())?.copy(rt.alloc())?;
     assert_eq!(rt; upload.name.bytes(), b"library/a".as_slice());
     assert_eq!(rt;
         (upload.id, upload.offset, upload.touched, upload.version),
         (2, 3, 4, 5)
     );
-    let put = PutAsk {
+    Ok(())
+}
+
+fn put(alloc: Global) -> Result<PutAsk, Fail> {
+    Ok(PutAsk {
         name: name(alloc)?,
         digest: digest(2),
         size: 7,
@@ -167,8 +184,12 @@ fn rows_of_names_are_copied(rt: HostRuntime) -> Result<(), Fail> {
         refs: digests(alloc, &[])?,
         children: digests(alloc, &[4])?,
         tag: Some(tag(alloc, b"all")?),
-    };
-    let put = put.copy(alloc)?;
+    })
+}
+
+#[test]
+fn puts_are_copied(rt: HostRuntime) -> Result<(), Fail> {
+    let put = put(rt.alloc())?.copy(rt.alloc())?;
     assert_eq!(rt; put.children.as_slice(), [digest(4)].as_slice());
     assert!(rt; put.refs.is_empty());
     assert_eq!(rt; put.tag.map(|tag| tag.bytes().len()), Some(3));
@@ -308,21 +329,23 @@ fn notes_are_copied(rt: HostRuntime) -> Result<(), Fail> {
     Ok(())
 }
 
-#[test]
-fn batches_are_copied(rt: HostRuntime) -> Result<(), Fail> {
-    let alloc = rt.alloc();
+fn batch(alloc: Global) -> Result<Batch, Fail> {
     let mut changes = Listed::new(alloc);
     changes.push(Change::Set(Row::Snap(snap(alloc)?)))?;
     changes.push(Change::Drop(Key::Upload { id: 2 }))?;
-    let batch = Batch {
+    Ok(Batch {
         changes,
         entry: Entry {
             number: MAX_ENTRIES,
             moment: MAX_MOMENT,
             kind: EntryKind::UploadEnded { job: 0, upload: 2 },
         },
-    };
-    let copied = batch.copy(alloc)?;
+    })
+}
+
+#[test]
+fn batches_are_copied(rt: HostRuntime) -> Result<(), Fail> {
+    let copied = batch(rt.alloc())?.copy(rt.alloc())?;
     assert_eq!(rt; copied.changes.len(), 2);
     assert!(rt;
         matches!(
@@ -343,17 +366,22 @@ fn batches_are_copied(rt: HostRuntime) -> Result<(), Fail> {
             EntryKind::UploadEnded { job: 0, upload: 2 }
         )
     );
+    Ok(())
+}
+
+#[test]
+fn pages_and_meta_have_their_limits(rt: HostRuntime) -> Result<(), Fail> {
     let meta = Meta {
-        entries: copied.entry.number,
-        latest: copied.entry.moment,
+        entries: MAX_ENTRIES,
+        latest: MAX_MOMENT,
     };
     assert_eq!(rt;
         (meta.entries, meta.latest, WINDOW),
-        (MAX_ENTRIES, MAX_MOMENT, 7_200)
+        (1 << 62, 253_370_764_799, 7_200)
     );
-    let mut snaps = Listed::new(alloc);
-    snaps.push(snap(alloc)?)?;
-    let page = Page::Snap(snaps).copy(alloc)?;
+    let mut snaps = Listed::new(rt.alloc());
+    snaps.push(snap(rt.alloc())?)?;
+    let page = Page::Snap(snaps).copy(rt.alloc())?;
     assert!(rt; matches!(&page, Page::Snap(rows) if rows.len() <= MOST_ROWS));
     Ok(())
 }
