@@ -207,6 +207,23 @@ fn filled(alloc: Global, fails: &[u64]) -> Result<MemKeeper, Fail> {
     Ok(MemKeeper::of(alloc, rows, fails.to_vec(alloc)?))
 }
 
+// The version of the project, and the size of the pair.
+fn by_project(keeper: &mut MemKeeper, project: &ProjectName) -> Result<[Option<u64>; 2], Fail> {
+    Ok([
+        keeper.project(project)?.map(|row| row.version),
+        keeper.pair(project, &digest(1))?.map(|row| row.size),
+    ])
+}
+
+// The versions of the artifact, the tag and the tag of the snapshot.
+fn by_repository(keeper: &mut MemKeeper, name: &Name, tag: &Tag) -> Result<[Option<u64>; 3], Fail> {
+    Ok([
+        keeper.artifact(name, &digest(2))?.map(|row| row.version),
+        keeper.tag(name, tag)?.map(|row| row.version),
+        keeper.snap(5, name, tag)?.map(|row| row.version),
+    ])
+}
+
 // The versions of the project, the artifact, the tag and the tag of the snapshot, and the size of the pair.
 fn by_name(
     keeper: &mut MemKeeper,
@@ -217,13 +234,9 @@ fn by_name(
     let name = Name::read(alloc, name)?;
     let project = ProjectName::read(alloc, name.project())?;
     let tag = Tag::read(alloc, tag)?;
-    Ok([
-        keeper.project(&project)?.map(|row| row.version),
-        keeper.artifact(&name, &digest(2))?.map(|row| row.version),
-        keeper.tag(&name, &tag)?.map(|row| row.version),
-        keeper.snap(5, &name, &tag)?.map(|row| row.version),
-        keeper.pair(&project, &digest(1))?.map(|row| row.size),
-    ])
+    let [own, used] = by_project(keeper, &project)?;
+    let [artifact, row, snap] = by_repository(keeper, &name, &tag)?;
+    Ok([own, artifact, row, snap, used])
 }
 
 // The versions of the upload, the job, the blob and the candidate.
@@ -357,6 +370,11 @@ fn batch(alloc: Global) -> Result<Batch, Fail> {
     })
 }
 
+// Whether the batch was committed.
+fn committed(keeper: &mut MemKeeper, alloc: Global) -> Result<Result<(), KeepFault>, Fail> {
+    Ok(keeper.commit(&batch(alloc)?))
+}
+
 // The first id, the last, and how many there are.
 fn ids(uploads: &[Upload]) -> (u64, u64, usize) {
     match uploads {
@@ -371,12 +389,17 @@ fn state(rows: &Rows) -> ((u64, u64, usize), usize) {
     (ids(rows.uploads()), rows.entries().len())
 }
 
+// How many calls were made, and how many of them failed.
+fn counts(keeper: &MemKeeper) -> (u64, u64) {
+    (keeper.script.calls(), keeper.script.faults())
+}
+
 #[test]
 fn a_commit_is_seen_by_later_reads(rt: HostRuntime) -> Result<(), Fail> {
     let mut keeper = filled(rt.alloc(), &[])?;
-    keeper.commit(&batch(rt.alloc())?)?;
-    assert!(rt; keeper.upload(3)?.is_none());
-    assert!(rt; keeper.upload(4)?.is_some());
+    assert_eq!(rt; committed(&mut keeper, rt.alloc())?, Ok(()));
+    assert_eq!(rt; by_number(&mut keeper, 3, 1)?[0], None);
+    assert_eq!(rt; by_number(&mut keeper, 4, 1)?[0], Some(16));
     assert_eq!(rt; meta(&mut keeper)?, (3, 1_000_003));
     assert_eq!(rt; state(&keeper.into_rows()), ((4, 4, 1), 3));
     Ok(())
@@ -385,14 +408,13 @@ fn a_commit_is_seen_by_later_reads(rt: HostRuntime) -> Result<(), Fail> {
 #[test]
 fn fail_next_fails_one_commit(rt: HostRuntime) -> Result<(), Fail> {
     let mut keeper = filled(rt.alloc(), &[])?;
-    let batch = batch(rt.alloc())?;
     keeper.fail_next();
     assert_eq!(rt; meta(&mut keeper)?, (2, 1_000_002));
-    assert_eq!(rt; keeper.commit(&batch), Err(KeepFault::Failed));
+    assert_eq!(rt; committed(&mut keeper, rt.alloc())?, Err(KeepFault::Failed));
     assert_eq!(rt; state(keeper.rows()), ((3, 3, 1), 2));
-    assert_eq!(rt; keeper.commit(&batch), Ok(()));
+    assert_eq!(rt; committed(&mut keeper, rt.alloc())?, Ok(()));
     assert_eq!(rt; state(keeper.rows()), ((4, 4, 1), 3));
-    assert_eq!(rt; (keeper.script.calls(), keeper.script.faults()), (3, 1));
+    assert_eq!(rt; counts(&keeper), (3, 1));
     Ok(())
 }
 
@@ -453,22 +475,29 @@ fn call(keeper: &mut MemKeeper, with: &Arguments, number: u64) -> Result<(), Kee
     }
 }
 
+// Whether the call was refused as failed, and whether it left the rows.
+fn outcome_of_call(keeper: &mut MemKeeper, with: &Arguments, number: u64) -> (bool, bool) {
+    let before = state(keeper.rows());
+    let answer = call(keeper, with, number);
+    (
+        answer == Err(KeepFault::Failed),
+        before == state(keeper.rows()),
+    )
+}
+
 #[test]
 fn each_call_fails_where_it_is_told(rt: HostRuntime) -> Result<(), Fail> {
     let with = made_arguments(rt.alloc())?;
     for failing in 1..17u64 {
         let mut keeper = filled(rt.alloc(), &[failing])?;
         for number in 1..17u64 {
-            let before = state(keeper.rows());
-            let answer = call(&mut keeper, &with, number);
-            assert_eq!(rt; answer == Err(KeepFault::Failed), number == failing);
             assert_eq!(rt;
-                before == state(keeper.rows()),
-                number < 16 || failing == 16
+                outcome_of_call(&mut keeper, &with, number),
+                (number == failing, number < 16 || failing == 16)
             );
         }
-        assert_eq!(rt; (keeper.script.calls(), keeper.script.faults()), (16, 1));
-        keeper.commit(&with.batch)?;
+        assert_eq!(rt; counts(&keeper), (16, 1));
+        assert_eq!(rt; call(&mut keeper, &with, 16), Ok(()));
         assert_eq!(rt; state(keeper.rows()), ((4, 4, 1), 3));
     }
     Ok(())
